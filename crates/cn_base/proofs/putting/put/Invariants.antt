@@ -1,0 +1,12 @@
+use Rattle.std.proofs.Common.{length, ◌-◌, ◌≡◌, ◌≤◌, take}
+use Rattle.std.specs.Io.KnownBytes.{append_known}
+use Rattle.cn_base.proofs.putting.put.Given as goal
+
+abbrev pub invariant-loop-at : goal.invariant-loop-at
+invariant-loop-at g l =
+    (l.at ≤ length l.bytes)
+    × (g.K.Sink.written l.sink ≡ append_known (g.K.Sink.written l.fn.sink) (take l.at l.bytes))
+    × (g.K.Sink.faults l.sink ≡ g.K.Sink.faults l.fn.sink)
+
+abbrev pub decreases-loop-at : goal.decreases-loop-at
+decreases-loop-at g l = length l.bytes - l.at

@@ -1,0 +1,7 @@
+pub mod Causes
+pub mod Reading
+pub mod Writing
+pub mod Memory
+pub mod Lines
+pub mod Sums
+pub mod Nests

@@ -1,0 +1,29 @@
+//! What every crate stands on: the inputs and the sink that a command is handed, with their fakes,
+//! texts and lists as contracts see them, the tree of a source, and the limits that several crates share.
+#![tactic(auto)]
+
+mod fill;
+mod inputs;
+mod lines;
+mod list;
+mod memory;
+mod putting;
+mod sink;
+mod text;
+pub mod tree;
+
+pub use fill::Fill;
+pub use inputs::{Inputs, ReadFail};
+pub use lines::{Piece, put_line};
+pub use list::List;
+pub use memory::{AskedRead, File, MemInputs, MemSink, SilentInputs, SilentSink};
+pub use putting::{put, put_num};
+pub use sink::{Sink, WriteFail};
+pub use text::Text;
+
+/// The greatest number of ticks of a trace, and so of a board's life.
+pub const MOST_TICKS: u32 = 1_000_000;
+
+/// Want of memory.
+#[derive(Clone, Copy, Debug, PartialEq, Eq)]
+pub struct NoMemory;
