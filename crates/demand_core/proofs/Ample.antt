@@ -4,10 +4,10 @@ use Rattle.std.proofs.lemmas.List.Sums.{sum_by-cons}
 use Rattle.std.proofs.lemmas.Bool.{cases_lt}
 use Rattle.std.proofs.lemmas.Nat.{mod_below}
 use Rattle.std.specs.Int.{◌∣◌}
-use native.Mathlib.Nat.{mul-div_cancel', div-add-mod}
+use native.Mathlib.Nat.{mul-div_cancel', div-add-mod, div-eq_of_lt}
 use Rattle.demand_core.specs.declared.Load.{Load}
 use Rattle.demand_core.specs.declared.Base.{Base}
-use Rattle.demand_core.specs.Demand.{sbf, rbf, dbf, block, energy_use, time_use, carried, CanRepeat, IsWindow, FitsAt}
+use Rattle.demand_core.specs.Demand.{sbf, rbf, dbf, block, energy_use, time_use, CanRepeat, IsWindow, FitsAt}
 use Rattle.demand_core.proofs.Sums.{IsAt, all_at}
 use Rattle.demand_core.proofs.Closing.{block-le}
 
@@ -41,13 +41,13 @@ jobs_le n t w c h is =
     subst (λ (m : ℕ). n / t * c * m ≤ n * (w * c)) is (rw same more)
 
 rbf_grows : (base : Base) (loads : List Load) (window l : ℕ) → CanRepeat base loads → IsWindow base.p loads window →
-    rbf loads l * window ≤ sum_by (λ x. x.units) loads * window + l * energy_use loads window
+    rbf loads l * window ≤ rbf loads 0 * window + l * energy_use loads window
 unfolding rbf
 rbf_grows base loads window l are is =
-    rw (← sum_by-times loads (λ x. x.units) window)
-    (sums_le loads (λ x. (l / x.spacing + 1) * x.units) (λ x. x.units * window) (λ x. window / x.spacing * x.units) window l each)
+    rw (← sum_by-times loads (λ x. (0 / x.spacing + 1) * x.units) window)
+    (sums_le loads (λ x. (l / x.spacing + 1) * x.units) (λ x. (0 / x.spacing + 1) * x.units * window) (λ x. window / x.spacing * x.units) window l each)
   where
-    each : (e : ℕ) (x : Load) → IsAt loads e x → (l / x.spacing + 1) * x.units * window ≤ x.units * window + l * (window / x.spacing * x.units)
+    each : (e : ℕ) (x : Load) → IsAt loads e x → (l / x.spacing + 1) * x.units * window ≤ (0 / x.spacing + 1) * x.units * window + l * (window / x.spacing * x.units)
     each e x at =
         let whole : x.spacing * (window / x.spacing) ≡ window = mul-div_cancel' x.spacing (all_at (λ y. y.spacing ∣ window) loads is.of_spacings e x at) in
         let jobs = jobs_le l x.spacing (window / x.spacing) x.units window whole in
@@ -68,44 +68,50 @@ sbf_grows base loads window l are is = go base.q base.p (window / base.p) window
         subst (λ (m : ℕ). l * (q * w) ≤ q * (l / p) * m + q * m) same (omega arith)
 
 dbf_grows : (base : Base) (loads : List Load) (window l : ℕ) → CanRepeat base loads → IsWindow base.p loads window →
-    dbf loads l * window ≤ carried loads window + l * time_use loads window
+    dbf loads l * window ≤ sum_by (λ x. x.ticks) loads * window + l * time_use loads window
 unfolding dbf
 dbf_grows base loads window l are is =
-    sums_le loads (λ x. (l + x.spacing - x.deadline) / x.spacing * x.ticks) (λ x. (x.spacing - x.deadline) * (window / x.spacing * x.ticks)) (λ x. window / x.spacing * x.ticks) window l each
+    rw (← sum_by-times loads (λ x. x.ticks) window)
+    (sums_le loads (λ x. (l + x.spacing - x.deadline) / x.spacing * x.ticks) (λ x. x.ticks * window) (λ x. window / x.spacing * x.ticks) window l each)
   where
-    each : (e : ℕ) (x : Load) → IsAt loads e x →
-        (l + x.spacing - x.deadline) / x.spacing * x.ticks * window ≤ (x.spacing - x.deadline) * (window / x.spacing * x.ticks) + l * (window / x.spacing * x.ticks)
+    each : (e : ℕ) (x : Load) → IsAt loads e x → (l + x.spacing - x.deadline) / x.spacing * x.ticks * window ≤ x.ticks * window + l * (window / x.spacing * x.ticks)
     each e x at =
         let whole : x.spacing * (window / x.spacing) ≡ window = mul-div_cancel' x.spacing (all_at (λ y. y.spacing ∣ window) loads is.of_spacings e x at) in
-        let within : x.deadline ≤ x.spacing = all_at (λ y. y.deadline ≤ y.spacing) loads are.within e x at in
         let jobs = jobs_le (l + x.spacing - x.deadline) x.spacing (window / x.spacing) x.ticks window whole in
-        let split : l + x.spacing - x.deadline ≡ x.spacing - x.deadline + l = omega arith in
-        let parts : (l + x.spacing - x.deadline) * (window / x.spacing * x.ticks) ≡ (x.spacing - x.deadline) * (window / x.spacing * x.ticks) + l * (window / x.spacing * x.ticks) =
-        rw split (grind arith) in
+        let near : (l + x.spacing - x.deadline) * (window / x.spacing * x.ticks) ≤ (l + x.spacing) * (window / x.spacing * x.ticks) = mul-le-mul_right (window / x.spacing * x.ticks) (omega arith) in
+        let parts : x.spacing * (window / x.spacing) * x.ticks ≡ x.spacing * (window / x.spacing * x.ticks) = grind arith in
+        let turn : x.ticks * window ≡ x.spacing * (window / x.spacing) * x.ticks = rw whole (grind arith) in
         omega arith
 
 -- a * (b - c) where c ≤ b
 spare_parts : (l b c : ℕ) → c ≤ b → l * (b - c) + l * c ≡ l * b
 spare_parts l b c le = let back : b - c + c ≡ b = omega arith in let whole : l * (b - c + c) ≡ l * b = rw back refl in omega arith
 
+sbf-zero : (base : Base) → 0 < base.p → sbf base 0 ≡ 0
+unfolding sbf
+sbf-zero base some = let none : 0 / base.p ≡ 0 = div-eq_of_lt some in rw none (omega arith)
+
 pub ample_supply : (base : Base) (loads : List Load) (window l : ℕ) → CanRepeat base loads → IsWindow base.p loads window →
     energy_use loads window ≤ base.q * (window / base.p) → base.q * window ≤ l * (base.q * (window / base.p) - energy_use loads window) →
-    rbf loads l ≤ sum_by (λ x. x.units) loads + sbf base l
+    rbf loads l - sbf base l ≤ rbf loads 0 - sbf base 0
 ample_supply base loads window l are is enough far =
-    le_from_products (rbf loads l) (sum_by (λ x. x.units) loads + sbf base l) window is.positive
-    (total (rbf loads l) (sbf base l) (sum_by (λ x. x.units) loads) (base.q * window) (l * energy_use loads window) (l * (base.q * (window / base.p))) _
-    (rbf_grows base loads window l are is) (sbf_grows base loads window l are is) (spare_parts l (base.q * (window / base.p)) (energy_use loads window) enough) far)
+    let none = sbf-zero base are.p in
+    let le : rbf loads l ≤ rbf loads 0 + sbf base l =
+    le_from_products (rbf loads l) (rbf loads 0 + sbf base l) window is.positive
+    (total (rbf loads l) (sbf base l) (rbf loads 0) (base.q * window) (l * energy_use loads window) (l * (base.q * (window / base.p))) _
+    (rbf_grows base loads window l are is) (sbf_grows base loads window l are is) (spare_parts l (base.q * (window / base.p)) (energy_use loads window) enough) far) in
+    omega arith
   where
     total : (r s u qh lu ls spare : ℕ) → r * window ≤ u * window + lu → ls ≤ s * window + qh → spare + lu ≡ ls → qh ≤ spare → r * window ≤ (u + s) * window
     total r s u qh lu ls spare grows supplied parts far = omega arith
 
 pub ample_time : (base : Base) (loads : List Load) (window l : ℕ) → CanRepeat base loads → IsWindow base.p loads window →
-    time_use loads window ≤ window → carried loads window + block base loads 0 * window ≤ l * (window - time_use loads window) →
+    time_use loads window ≤ window → (sum_by (λ x. x.ticks) loads + block base loads 0) * window ≤ l * (window - time_use loads window) →
     FitsAt base loads l
 ample_time base loads window l are is enough far =
     le_from_products (dbf loads l + block base loads l) l window is.positive
-    (total (dbf loads l) (block base loads l) (block base loads 0) (carried loads window) (l * time_use loads window) _
+    (total (dbf loads l) (block base loads l) (block base loads 0) (sum_by (λ x. x.ticks) loads) (l * time_use loads window) _
     (dbf_grows base loads window l are is) (mul-le-mul_right window (block-le base loads 0 l (omega arith))) (spare_parts l window (time_use loads window) enough) far)
   where
-    total : (d b b0 g lu spare : ℕ) → d * window ≤ g + lu → b * window ≤ b0 * window → spare + lu ≡ l * window → g + b0 * window ≤ spare → (d + b) * window ≤ l * window
-    total d b b0 g lu spare grows less parts far = omega arith
+    total : (d b b0 c lu spare : ℕ) → d * window ≤ c * window + lu → b * window ≤ b0 * window → spare + lu ≡ l * window → (c + b0) * window ≤ spare → (d + b) * window ≤ l * window
+    total d b b0 c lu spare grows less parts far = omega arith

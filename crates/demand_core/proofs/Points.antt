@@ -2,6 +2,8 @@
 use Rattle.std.proofs.Common.{◌≡◌, ◌≢◌, ℕ, zero, suc, ◌+◌, ◌-◌, ◌*◌, ◌/◌, ◌%◌, ◌<◌, ◌≤◌, ◌⊎◌, inl, inr, List, [], ◌∷◌, length, All, Any, min, fold, refl, sym, ap, subst, ◌∙◌, arith, mul-le-mul_right, mul-le-mul_left, div-mul-le_self}
 use native.Mathlib.Nat.{div-add-mod'}
 use Rattle.std.proofs.lemmas.Nat.{mod_below, div-mul-add, le-div}
+use Rattle.std.specs.List.{AllByRecursion}
+use Rattle.std.proofs.lemmas.List.Elements.{All-nil, All-from_recursion}
 use Rattle.std.proofs.lemmas.Bool.{cases_lt}
 use Rattle.demand_core.specs.declared.Load.{Load}
 use Rattle.demand_core.specs.declared.Base.{Base}
@@ -139,7 +141,22 @@ has_least (y ∷ loads) some =
       | inr one ↦ (suc one.0, one.1, one.2, one.3)
     ]
 
+fold_min-le : (d : ℕ) (loads : List Load) → fold (λ m y. min m y.deadline) d loads ≤ d
+fold_min-le d [] = omega arith
+fold_min-le d (x ∷ loads) = let rest = fold_min-le (min d x.deadline) loads in omega arith
+
+fold_min-each : (d : ℕ) (loads : List Load) → AllByRecursion (λ x. fold (λ m y. min m y.deadline) d loads ≤ x.deadline) loads
+fold_min-each d [] = tt
+fold_min-each d (y ∷ loads) =
+    let rest = fold_min-le (min d y.deadline) loads in (omega arith, fold_min-each (min d y.deadline) loads)
+
 -- ---- the laws
+
+pub least_deadline-le : (loads : List Load) → All (λ x. least_deadline loads ≤ x.deadline) loads
+unfolding least_deadline
+least_deadline-le [] = All-nil (λ x. least_deadline [] ≤ x.deadline)
+least_deadline-le (y ∷ loads) =
+    All-from_recursion (λ x. fold (λ m y. min m y.deadline) y.deadline loads ≤ x.deadline) (y ∷ loads) (fold_min-le y.deadline loads, fold_min-each y.deadline loads)
 
 pub covered : (base : Base) (loads : List Load) (window l : ℕ) → l < window → rbf loads l - sbf base l ≤ reserve base loads window
 unfolding reserve

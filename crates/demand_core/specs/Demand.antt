@@ -67,10 +67,6 @@ energy_use loads window = sum_by (λ x. window / x.spacing * x.units) loads
 abbrev pub time_use : List Load → ℕ → ℕ
 time_use loads window = sum_by (λ x. window / x.spacing * x.ticks) loads
 
--- how far the deadlines of a window's jobs stand before their next arrivals, times the ticks of the jobs
-abbrev pub carried : List Load → ℕ → ℕ
-carried loads window = sum_by (λ x. (x.spacing - x.deadline) * (window / x.spacing * x.ticks)) loads
-
 abbrev pub room_use : Base → List Load → ℕ → ℕ
 room_use base loads window = reserve base loads window + sum_by (λ x. x.units) loads + base.checkpoint + base.section + base.wake
 

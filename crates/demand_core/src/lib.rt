@@ -5,7 +5,7 @@
 ghost use Rattle.std.specs.Prelude.{◌≡◌, ℕ, ◌+◌, ◌-◌, ◌*◌, ◌/◌, ◌<◌, ◌≤◌, List, length, sum_by, All, Any};
 ghost use Rattle.demand_core.specs.declared.Load.{Load};
 ghost use Rattle.demand_core.specs.declared.Base.{Base};
-ghost use Rattle.demand_core.specs.Demand.{sbf, rbf, dbf, block, reserve, least_deadline, CanRepeat, IsWindow, IsFeasible, FitsAt, IsDueAt, energy_use, time_use, carried};
+ghost use Rattle.demand_core.specs.Demand.{sbf, rbf, dbf, block, reserve, least_deadline, CanRepeat, IsWindow, IsFeasible, FitsAt, IsDueAt, energy_use, time_use};
 
 mod demand;
 mod multiple;
@@ -16,9 +16,6 @@ mod tests;
 pub use demand::{block, dbf, rbf, sbf};
 pub use multiple::lcm_to;
 pub use repeat::{MOST_WINDOW, WindowTooLong, window};
-
-/// The greatest number of events.
-pub const MOST_LOADS: usize = 16;
 
 /// One event in one version.
 #[derive(Clone, Copy, Debug, PartialEq, Eq)]
@@ -82,9 +79,9 @@ pub fn ample_law()
     // no difference is greater than that at length 0
     ensures energy { (base : Base) (loads : List Load) (window l : ℕ) → CanRepeat base loads → IsWindow base.p loads window →
         energy_use loads window ≤ base.q * (window / base.p) → base.q * window ≤ l * (base.q * (window / base.p) - energy_use loads window) →
-        rbf loads l ≤ sum_by (λ x. x.units) loads + sbf base l }
+        rbf loads l - sbf base l ≤ rbf loads 0 - sbf base 0 }
     ensures time { (base : Base) (loads : List Load) (window l : ℕ) → CanRepeat base loads → IsWindow base.p loads window →
-        time_use loads window ≤ window → carried loads window + block base loads 0 * window ≤ l * (window - time_use loads window) →
+        time_use loads window ≤ window → (sum_by (λ x. x.ticks) loads + block base loads 0) * window ≤ l * (window - time_use loads window) →
         FitsAt base loads l }
 {}
 
@@ -101,6 +98,7 @@ pub fn points_law()
     ensures fits { (base : Base) (loads : List Load) (upto l : ℕ) → CanRepeat base loads → 0 < length loads →
         All (λ x. (k : ℕ) → x.deadline + k * x.spacing < upto → FitsAt base loads (x.deadline + k * x.spacing)) loads →
         least_deadline loads ≤ l → l < upto → FitsAt base loads l }
+    ensures least { (loads : List Load) → All (λ x. least_deadline loads ≤ x.deadline) loads }
     // the first length at which it does not fit is such a point
     ensures first { (base : Base) (loads : List Load) (at : ℕ) → CanRepeat base loads → 0 < length loads → least_deadline loads ≤ at →
         ((l : ℕ) → least_deadline loads ≤ l → l < at → FitsAt base loads l) → at < dbf loads at + block base loads at →

@@ -1,4 +1,4 @@
-use Rattle.demand_core.proofs.Points.{covered, kept_at_points, fits_at_points, first_late, reserve-less}
+use Rattle.demand_core.proofs.Points.{covered, kept_at_points, fits_at_points, least_deadline-le, first_late, reserve-less}
 use Rattle.demand_core.proofs.points_law.Goals as goal
 
 pub returns-clause-covers : goal.returns-clause-covers
@@ -15,3 +15,6 @@ returns-clause-first c = first_late
 
 pub returns-clause-harvest : goal.returns-clause-harvest
 returns-clause-harvest c = reserve-less
+
+pub returns-clause-least : goal.returns-clause-least
+returns-clause-least c = least_deadline-le
