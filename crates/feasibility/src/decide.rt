@@ -4,8 +4,8 @@ ghost use Rattle.std.specs.Prelude.{◌≡◌, ℕ, ◌+◌, ◌<◌, ◌≤◌,
 ghost use Rattle.demand_core.specs.Demand.{least_deadline, room_use as room_use_of, CanRepeat, IsWindow, rbf, sbf, reserve as reserve_of, dbf, block};
 ghost use Rattle.feasibility.specs.Verdicts.{IsVerdict, OnYes, SidesAreBelow};
 
-use crate::late::{due_work, first_late};
 use crate::kept::reserve;
+use crate::late::{due_work, first_late};
 use crate::sums::{energy_use, time_use, units_of_each};
 use demand_core::{Base, Load, closing_law};
 

@@ -48,7 +48,9 @@ fn most_at_multiples(base: &Base, loads: &[Load], spacing: u32, upto: u32, floor
     requires spacing { 0 < spacing }
     requires spacing_short { spacing ≤ 1000000 }
     requires upto_short { upto ≤ 1000000 }
+    requires floor_bound { floor ≤ 2 ^ 101 }
     ensures floor { floor ≤ result }
+    ensures bound { result ≤ 2 ^ 101 }
     ensures each { (k : ℕ) → k * spacing < upto → rbf_of loads.now (k * spacing) - sbf_of base.now (k * spacing) ≤ result }
     ensures least { (bound : ℕ) → floor ≤ bound →
         ((l : ℕ) → l < upto → rbf_of loads.now l - sbf_of base.now l ≤ bound) → result ≤ bound }

@@ -37,7 +37,11 @@ fn ample_from(base: &Base, loads: &[Load], window: u32, end: u32) -> u32
     }
     let work = ticks_of_each(loads) + block(base, loads, 0);
     let far = work * u128::from(window) / left + 1;
-    if far < u128::from(end) { far as u32 } else { end }
+    if far < u128::from(end) {
+        far as u32
+    } else {
+        end
+    }
 }
 
 /// The first length below `upto`, among a deadline and whole numbers of spacings after it, at which the work does not fit, or `upto`.

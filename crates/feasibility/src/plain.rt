@@ -5,13 +5,14 @@ ghost use Rattle.demand_core.specs.Demand.{CanRepeat, IsWindow, reserve as reser
 ghost use Rattle.feasibility.specs.Verdicts.{IsVerdict};
 
 use crate::Verdict;
+use crate::decide::room_use;
 use crate::late::due_work;
 use crate::least::least_deadline;
 use crate::sums::{energy_use, time_use};
-use crate::decide::room_use;
 use demand_core::{Base, Load, rbf, sbf};
 
 /// The units that have to be kept back.
+#[tactic(auto, unfolding(demand_core::specs::Demand::reserve))]
 pub fn reserve(base: &Base, loads: &[Load], window: u32) -> u128
     requires few { length loads.now ≤ 16 }
     requires repeats { CanRepeat base.now loads.now }

@@ -1,4 +1,4 @@
-use Rattle.std.proofs.Common.{◌≡◌, ℕ, ◌+◌, ◌-◌, ◌*◌, ◌<◌, ◌≤◌}
+use Rattle.std.proofs.Common.{◌≡◌, ℕ, ◌+◌, ◌-◌, ◌*◌, ◌^◌, ◌<◌, ◌≤◌}
 use Rattle.demand_core.specs.Demand.{rbf, sbf}
 use Rattle.feasibility.proofs.kept.most_at_multiples.Given as goal
 
@@ -9,6 +9,7 @@ invariant-loop-l l = record {
   at : l.l ≡ turns * l.spacing;
   near : l.l ≤ 2000000;
   floor : l.floor ≤ l.most;
+  bound : l.most ≤ 2 ^ 101;
   each : (k : ℕ) → k < turns → rbf l.loads (k * l.spacing) - sbf l.base (k * l.spacing) ≤ l.most;
   least : (bound : ℕ) → l.floor ≤ bound → ((n : ℕ) → n < l.upto → rbf l.loads n - sbf l.base n ≤ bound) → l.most ≤ bound;
 }
