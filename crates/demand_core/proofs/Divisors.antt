@@ -1,5 +1,5 @@
 -- Euclid's steps, and the least common multiple that the greatest common divisor gives.
-use Rattle.std.proofs.Common.{◌≡◌, ℕ, zero, suc, ◌+◌, ◌*◌, ◌/◌, ◌%◌, ◌<◌, ◌≤◌, inl, inr, subst, arith}
+use Rattle.std.proofs.Common.{◌≡◌, ℕ, zero, suc, ◌+◌, ◌*◌, ◌/◌, ◌%◌, ◌<◌, subst, arith}
 use Rattle.std.specs.Int.{◌∣◌}
 use native.Mathlib.Nat.{dvd-mul_left, dvd-mul_right, dvd-mul_right_of_dvd, dvd-mod_iff, div-add-mod, dvd-add_iff_right, dvd_of_mul-dvd-mul_left, mul-dvd-mul_left, mul-dvd-mul_right, mul-div_cancel', le_of_dvd}
 use Rattle.demand_core.specs.Multiples.{IsCommon, IsLeastCommon, DividesWith}

@@ -1,13 +1,13 @@
 -- Windows: least common multiples of the front of a list.
-use Rattle.std.proofs.Common.{◌≡◌, ℕ, ◌+◌, ◌-◌, ◌*◌, ◌/◌, ◌%◌, ◌<◌, ◌≤◌, inl, inr, List, [], ◌∷◌, ◌++◌, length, take, get_or, subst, arith, All}
+use Rattle.std.proofs.Common.{ℕ, ◌+◌, ◌%◌, ◌<◌, ◌≤◌, inl, inr, List, [], ◌∷◌, ◌++◌, length, take, get_or, subst, arith, All}
 use Rattle.std.specs.Int.{◌∣◌}
 use Rattle.std.proofs.lemmas.Bool.{cases_lt}
 use Rattle.std.proofs.lemmas.List.{take_more}
 use Rattle.std.proofs.lemmas.List.Elements.{All-more, All-weaker, recursion_from_All, All-from_recursion}
 use Rattle.std.specs.List.{AllByRecursion}
-use Rattle.std.proofs.lemmas.Nat.{mod_below, le-div}
-use Rattle.std.proofs.lemmas.Nat.Gcd.{mod-eq-zero_of_dvd, dvd_of_mod-eq-zero, dvd_refl, le_of_dvd}
-use native.Mathlib.Nat.{dvd-mul_left, dvd-mod_iff, div-add-mod, dvd_trans, mul-le-mul_right}
+use Rattle.std.proofs.lemmas.Nat.{mod_below}
+use Rattle.std.proofs.lemmas.Nat.Gcd.{dvd_of_mod-eq-zero, dvd_refl, le_of_dvd}
+use native.Mathlib.Nat.{dvd-mod_iff, dvd_trans}
 use Rattle.demand_core.specs.declared.Load.{Load}
 use Rattle.demand_core.specs.Demand.{IsWindow}
 use Rattle.demand_core.specs.Multiples.{IsCommon, IsLeastCommon, IsCommonOf}

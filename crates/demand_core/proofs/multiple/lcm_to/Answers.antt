@@ -1,4 +1,4 @@
-use Rattle.std.proofs.Common.{◌≡◌, ℕ, ◌*◌, ◌/◌, ◌<◌, ◌≤◌, arith, ap₂, sym, subst}
+use Rattle.std.proofs.Common.{◌≡◌, ℕ, ◌*◌, ◌/◌, ◌<◌, arith, ap₂, sym, subst}
 use Rattle.demand_core.specs.Multiples.{IsCommon, IsLeastCommon}
 use Rattle.demand_core.proofs.Divisors.{Divides, divisor_positive, least_common}
 use Rattle.demand_core.proofs.multiple.lcm_to.Goals as goal
