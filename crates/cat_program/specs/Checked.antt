@@ -7,6 +7,7 @@ use Rattle.cat_program.specs.declared.syntax.Stmt.{Stmt}
 use Rattle.cat_program.specs.declared.syntax.Stmt.TheVariants.{If, While, Repeat}
 use Rattle.cat_program.specs.Declares.{IsLaidOut, EachEventIs, EachDegrades}
 use Rattle.cat_program.specs.Body.{Simple, SetWord, SetElement, Emit, Raise, Body, Empty, Plain, When, Choice, Loop, Turns, tree_of}
+use Rattle.cat_program.specs.Meaning.{TaskState}
 use Rattle.cat_program.specs.Places.{expr_size, operands_size, Marks, tasks_marks, rest_in, tasks_size, events_size}
 
 -- A program: its variables and their first words; each task's name, first posts and block; each event as it is declared and the
@@ -47,6 +48,10 @@ program_marks p = tasks_marks (bodies_of p)
 
 abbrev pub rest_at : Checked → ℕ → Option Body
 rest_at p pc = rest_in (program_marks p) pc
+
+-- the first state of the tasks: the declared values, a post for each start, and no current list
+abbrev pub first_state : Checked → TaskState
+first_state p = record { store = record { words = p.words; posts = p.started }; current = None }
 
 -- ---- conditions
 
