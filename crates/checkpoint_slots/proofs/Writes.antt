@@ -4,7 +4,6 @@ use Rattle.std.specs.List.{filter, range_with_len}
 use Rattle.std.proofs.lemmas.List.{take-take, drop-take, drop-drop}
 use Rattle.std.proofs.lemmas.Bool.{cases_eq, cases_lt}
 use Rattle.nv_memory.specs.declared.layout.Layout.{Layout}
-use Rattle.nv_memory.specs.declared.entry.Op.{Op}
 use Rattle.nv_memory.specs.declared.entry.Op.TheVariants.{Write}
 use Rattle.nv_memory.specs.Layout.{lines_of, slot_at, log_at, size_of}
 use Rattle.nv_memory.specs.Bytes.{written, bytes_at}
@@ -12,9 +11,9 @@ use Rattle.nv_memory.specs.Laws.{WritesAreLocal, PartsAreApart}
 use Rattle.checkpoint_slots.specs.declared.slot.Slot.{Slot}
 use Rattle.checkpoint_slots.specs.Numbers.{spelled}
 use Rattle.checkpoint_slots.specs.Slot.{number_of, line_of, spelling}
-use Rattle.checkpoint_slots.specs.Image.{selected_of, committed_bytes, log_bytes, ChangesWithin}
+use Rattle.checkpoint_slots.specs.Image.{committed_bytes, log_bytes, ChangesWithin}
 use Rattle.checkpoint_slots.specs.Commit.{same_bytes, differs, differing, or_first, line_write, line_writes, other_of, other_at, commit_lines, gate_write, commit_writes}
-use Rattle.checkpoint_slots.specs.Writes.{IsAmong, IsUnderWay, StandsForSame, CommitsAreSafe}
+use Rattle.checkpoint_slots.specs.Writes.{IsAmong, IsUnderWay, CommitsAreSafe}
 use Rattle.checkpoint_slots.proofs.SpelledLemmas.{spelled_none}
 use Rattle.checkpoint_slots.proofs.CommitLemmas.{same_bytes_true}
 use Rattle.checkpoint_slots.proofs.Upto.{length-line, lines_more, changes_none, changes_both, changes_written}
@@ -115,9 +114,9 @@ module _ (writes : WritesAreLocal) (parts : (l : Layout) → PartsAreApart l) wh
           others_stand = λ j below. elim (cases_eq j i) [
             | inl is ↦ inl (inl is)
             | inr differ ↦ elim (way.others_stand j below) [
-                | inl among ↦ inl among
-                | inr stands ↦ inr (line_stays i j left image bytes way long below differ ∙ stands)
-              ]
+              | inl among ↦ inl among
+              | inr stands ↦ inr (line_stays i j left image bytes way long below differ ∙ stands)
+            ]
           ];
         }
 
@@ -133,10 +132,10 @@ module _ (writes : WritesAreLocal) (parts : (l : Layout) → PartsAreApart l) wh
           others_stand = λ j below. elim (cases_eq j i) [
             | inl is ↦ inr (subst (λ (k : ℕ). bytes_at (at + 64 * k) 64 (written (at + 64 * i) (line_of s i) image) ≡ line_of s k) (sym is) stands)
             | inr differ ↦ elim (way.others_stand j below) [
-                | inl (inl is) ↦ absurd (differ is)
-                | inl (inr among) ↦ inl among
-                | inr there ↦ inr (line_stays i j left image (line_of s i) way long below differ ∙ there)
-              ]
+              | inl (inl is) ↦ absurd (differ is)
+              | inl (inr among) ↦ inl among
+              | inr there ↦ inr (line_stays i j left image (line_of s i) way long below differ ∙ there)
+            ]
           ];
         }
 
