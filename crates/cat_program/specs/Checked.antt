@@ -1,21 +1,34 @@
 -- The checked program.
 use Rattle.std.specs.Prelude.{◌≡◌, ℕ, ◌+◌, ◌*◌, ◌<◌, ◌≤◌, max, ℤ, List, [], ◌∷◌, length, map, Option, Some, None, slice_get, slice_index, unwrap_or}
 use Rattle.cat_program.specs.declared.syntax.Expr.{Expr, Number, Payload, Word, Element', Signed', Chain', Row_of-Further, end_of-Further, more_of-Further}
+use Rattle.cat_program.specs.declared.headers.Variable.{Variable}
+use Rattle.cat_program.specs.declared.headers.Event.{Event}
 use Rattle.cat_program.specs.declared.syntax.Stmt.{Stmt}
 use Rattle.cat_program.specs.declared.syntax.Stmt.TheVariants.{If, While, Repeat}
+use Rattle.cat_program.specs.Declares.{IsLaidOut, EachEventIs, EachDegrades}
 use Rattle.cat_program.specs.Body.{Simple, SetWord, SetElement, Emit, Raise, Body, Empty, Plain, When, Choice, Loop, Turns, tree_of}
+use Rattle.cat_program.specs.Meaning.{TaskState}
 use Rattle.cat_program.specs.Places.{expr_size, operands_size, Marks, tasks_marks, rest_in, tasks_size, events_size}
 
--- the first words, the first posts, the block of each task and of each version, and all blocks
+-- A program: its variables and their first words; each task's name, first posts and block; each event as it is declared and the
+-- block of each of its versions; the events that the degrade order mentions; and all blocks.
 pub record Checked : Type 0 where
+  pub variables : List Variable
   pub words : List ℤ
+  pub names : List (List ℕ)
   pub started : List ℕ
   pub tasks : List ℕ
+  pub headers : List Event
   pub events : List (List ℕ)
+  pub mentions : List ℕ
   pub blocks : List (List Stmt)
 
-abbrev pub checked_of : List ℤ → List ℕ → List ℕ → List (List ℕ) → List (List Stmt) → Checked
-checked_of words started tasks events blocks = record { words = words; started = started; tasks = tasks; events = events; blocks = blocks }
+abbrev pub checked_of : List Variable → List ℤ → List (List ℕ) → List ℕ → List ℕ → List Event → List (List ℕ) → List ℕ → List (List Stmt) → Checked
+checked_of variables words names started tasks headers events mentions blocks = record { variables = variables; words = words; names = names; started = started; tasks = tasks; headers = headers; events = events; mentions = mentions; blocks = blocks }
+
+-- an event and a version of it
+abbrev pub HasVersion : Checked → ℕ → ℕ → Type 0
+HasVersion p event version = (event < length p.events) × (version < length (unwrap_or (slice_get p.events event) []))
 
 abbrev pub body_at : Checked → ℕ → Body
 body_at p t = tree_of p.blocks (slice_index p.tasks t)
@@ -35,6 +48,10 @@ program_marks p = tasks_marks (bodies_of p)
 
 abbrev pub rest_at : Checked → ℕ → Option Body
 rest_at p pc = rest_in (program_marks p) pc
+
+-- the first state of the tasks: the declared values, a post for each start, and no current list
+abbrev pub first_state : Checked → TaskState
+first_state p = record { store = record { words = p.words; posts = p.started }; current = None }
 
 -- ---- conditions
 
@@ -155,6 +172,20 @@ most_steps (Choice b p test on off rest) = expr_size test + 1 + max (most_steps 
 most_steps (Loop b p test body rest) = most_steps rest
 most_steps (Turns b p n body rest) = 1 + (n * (1 + most_steps body + 1) + 1) + most_steps rest
 
+-- how deep a list nests
+abbrev pub depth_of : Body → ℕ
+depth_of Empty = 1
+depth_of (Plain b p s rest) = depth_of rest
+depth_of (When b p e on rest) = max (1 + depth_of on) (depth_of rest)
+depth_of (Choice b p e on off rest) = max (1 + depth_of on) (max (1 + depth_of off) (depth_of rest))
+depth_of (Loop b p e body rest) = max (1 + depth_of body) (depth_of rest)
+depth_of (Turns b p n body rest) = max (1 + depth_of body) (depth_of rest)
+
+-- no list nests deeper than 32
+abbrev pub EachShallow : List Body → Type 0
+EachShallow [] = Unit {0}
+EachShallow (body ∷ bodies) = (depth_of body ≤ 32) × EachShallow bodies
+
 -- each body of a list
 abbrev pub EachTaskWorks : ℕ → ℕ → List Body → Type 0
 EachTaskWorks words posts [] = Unit {0}
@@ -188,11 +219,18 @@ EachListBelow n [] = Unit {0}
 EachListBelow n (bs ∷ lists) = EachBelow n bs × EachListBelow n lists
 
 pub record IsChecked (p : Checked) : Type 0 where
+  pub laid_out : IsLaidOut 0 p.variables (length p.words)
+  pub few_words : length p.words ≤ 1024
+  pub named : length p.names ≡ length p.tasks
+  pub declares : EachEventIs p.headers p.events
+  pub mentions_in : EachBelow (length p.events) p.mentions
+  pub degrades : EachDegrades p.mentions 0 p.events
   pub tasks_in : EachBelow (length p.blocks) p.tasks
   pub events_in : EachListBelow (length p.blocks) p.events
   pub few_tasks : length p.tasks ≤ 16
   pub few_events : length p.events ≤ 16
   pub lower : EachLower 0 p.blocks
+  pub tasks_shallow : EachShallow (bodies_of p)
   pub tasks_work : EachTaskWorks (length p.words) (length p.tasks) (bodies_of p)
   pub events_work : EachEventWorks (length p.words) (length p.tasks) (versions_of p)
   pub started : length p.started ≡ length p.tasks
