@@ -36,15 +36,15 @@ abbrev pub AllSome : (Stepping → Type 0) → Option Stepping → Type 0
 AllSome P None = Unit {0}
 AllSome P (Some s) = P s
 
-if_all : (P : Stepping → Type 0) (b : Bool) (o : Option Stepping) → AllSome P o → AllSome P (if_so b o)
+pub if_all : (P : Stepping → Type 0) (b : Bool) (o : Option Stepping) → AllSome P o → AllSome P (if_so b o)
 if_all P true o h = h
 if_all P false o h = tt
 
-top_all : (P : Stepping → Type 0) (stack : List ℤ) (g : ℤ → List ℤ → Option Stepping) → ((x : ℤ) (below : List ℤ) → AllSome P (g x below)) → AllSome P (on_top stack g)
+pub top_all : (P : Stepping → Type 0) (stack : List ℤ) (g : ℤ → List ℤ → Option Stepping) → ((x : ℤ) (below : List ℤ) → AllSome P (g x below)) → AllSome P (on_top stack g)
 top_all P [] g h = tt
 top_all P (x ∷ below) g h = h x below
 
-two_all : (P : Stepping → Type 0) (stack : List ℤ) (g : ℤ → ℤ → List ℤ → Option Stepping) → ((x y : ℤ) (below : List ℤ) → AllSome P (g x y below)) → AllSome P (on_two stack g)
+pub two_all : (P : Stepping → Type 0) (stack : List ℤ) (g : ℤ → ℤ → List ℤ → Option Stepping) → ((x y : ℤ) (below : List ℤ) → AllSome P (g x y below)) → AllSome P (on_two stack g)
 two_all P [] g h = tt
 two_all P (y ∷ []) g h = tt
 two_all P (y ∷ x ∷ below) g h = h x y below

@@ -71,6 +71,12 @@ abbrev pub ReadyFor : Mode → CodeValue → Held → Type 0
 ReadyFor Task code h = (h.kept ≡ None) × ((pc : ℕ) × (next_of code h ≡ Some pc))
 ReadyFor Handler code h = (kept : Option ℕ) × (h.kept ≡ Some kept)
 
+-- a state at which a section begins, with this place
+pub record IsBefore (from : Option ℕ) (h : Held) : Type 0 where
+  pub place : h.place ≡ from
+  pub free : h.kept ≡ None
+  pub empty : h.stack ≡ []
+
 -- a section answers as one step of the tasks, and the states correspond again
 abbrev pub SectionIs : Checked → TaskState → Held → Stepped → Held → Type 0
 SectionIs p s old answer new =
