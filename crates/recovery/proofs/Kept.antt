@@ -11,10 +11,11 @@ use Rattle.nv_memory.specs.Board.{State}
 use Rattle.nv_memory.specs.Laws.{WritesAreLocal, PartsAreApart}
 use Rattle.checkpoint_slots.specs.Slot.{read_slot, spelling}
 use Rattle.checkpoint_slots.specs.Image.{selected_of, slot_bytes, committed_bytes, log_bytes, IsWellFormed}
+use Rattle.checkpoint_slots.specs.Save.{IsSaved}
 use Rattle.checkpoint_slots.specs.Writes.{StandsForSame}
 use Rattle.nv_log.specs.Record.{record_bytes, IsSpelled}
 use Rattle.nv_log.specs.Append.{ChangesRecord}
-use Rattle.recovery.specs.Committed.{Committed, RestsAt, IsRecorded, IsCommitted, Commits, IsSaved}
+use Rattle.recovery.specs.Committed.{Committed, RestsAt, IsRecorded, IsCommitted, Commits}
 
 module _ (writes : WritesAreLocal) (parts : (l : Layout) → PartsAreApart l) where
   -- images that agree before the log commit the same bytes
@@ -75,11 +76,12 @@ spelled l program old new v formed again rests recorded log same = record {
   recorded = recorded_again l program old new v log recorded;
 }
 
-module _ (l : Layout) (program : Checked) (before after : State) (old new : Committed) (is_old : IsCommitted l program before.image old) (rests : RestsAt program new.slot.pc new.current) (ready : IsRecorded l program before.image new) where
-  new_stands : (answer : Answer) → IsSaved l before answer after new.slot → committed_bytes l after.image ≡ spelling l new.slot → IsCommitted l program after.image new
-  new_stands answer saved same = spelled l program before.image after.image new saved.formed saved.again rests ready saved.log same
+module _ (l : Layout) (program : Checked) (before after : State) (old new : Committed) (is_old : IsCommitted l program before.image old) (rests : RestsAt program new.slot.pc new.current) (ready : IsRecorded l program before.image new)
+    (formed : IsWellFormed l (spelling l new.slot)) (again : read_slot l (spelling l new.slot) ≡ new.slot) where
+  new_stands : (answer : Answer) → IsSaved l new.slot before answer after → committed_bytes l after.image ≡ spelling l new.slot → IsCommitted l program after.image new
+  new_stands answer saved same = spelled l program before.image after.image new formed again rests ready saved.log same
 
-  pub commits : (answer : Answer) → IsSaved l before answer after new.slot → Commits l program old new after.image answer
+  pub commits : (answer : Answer) → IsSaved l new.slot before answer after → Commits l program old new after.image answer
   commits Done saved = new_stands Done saved saved.stands
   commits Lost saved = elim saved.stands [
     | inl same ↦ inl (old_again l program before.image after.image old same saved.log is_old)

@@ -7,11 +7,8 @@ use Rattle.cat_program.specs.Checked.{Checked, rest_at}
 use Rattle.nv_memory.specs.declared.layout.Layout.{Layout}
 use Rattle.nv_memory.specs.declared.board.Answer.{Answer}
 use Rattle.nv_memory.specs.declared.board.Answer.TheVariants.{Done, Lost, Over}
-use Rattle.nv_memory.specs.Board.{State}
 use Rattle.checkpoint_slots.specs.declared.slot.Slot.{Slot}
-use Rattle.checkpoint_slots.specs.Slot.{read_slot, spelling}
-use Rattle.checkpoint_slots.specs.Save.{SaveLeaves}
-use Rattle.checkpoint_slots.specs.Image.{committed_bytes, committed_slot, log_bytes, IsWellFormed}
+use Rattle.checkpoint_slots.specs.Image.{committed_bytes, committed_slot, IsWellFormed}
 use Rattle.nv_log.specs.Record.{record_bytes, IsSpelled}
 
 -- an entry says that this event was handled
@@ -42,13 +39,6 @@ pub record IsCommitted (l : Layout) (program : Checked) (image : List ℕ) (v : 
   pub slot_is : committed_slot l image ≡ v.slot
   pub rests : RestsAt program v.slot.pc v.current
   pub recorded : IsRecorded l program image v
-
--- a save of this slot was ended, wherever it stopped
-pub record IsSaved (l : Layout) (before : State) (answer : Answer) (after : State) (slot : Slot) : Type 0 where
-  pub stands : SaveLeaves l slot before answer after
-  pub again : read_slot l (spelling l slot) ≡ slot
-  pub formed : IsWellFormed l (spelling l slot)
-  pub log : log_bytes l after.image ≡ log_bytes l before.image
 
 -- one of two values is committed after a slot was saved, or not
 abbrev pub Commits : Layout → Checked → Committed → Committed → List ℕ → Answer → Type 0

@@ -6,9 +6,10 @@ use Rattle.nv_memory.specs.declared.board.Answer.{Answer}
 use Rattle.nv_memory.specs.Board.{State}
 use Rattle.checkpoint_slots.specs.Slot.{read_slot, spelling}
 use Rattle.checkpoint_slots.specs.Image.{committed_bytes, log_bytes, IsWellFormed}
+use Rattle.checkpoint_slots.specs.Save.{IsSaved}
 use Rattle.checkpoint_slots.specs.Writes.{StandsForSame}
 use Rattle.nv_log.specs.Append.{ChangesRecord}
-use Rattle.recovery.specs.Committed.{Committed, RestsAt, IsCommitted, IsRecorded, IsSaved, Commits}
+use Rattle.recovery.specs.Committed.{Committed, RestsAt, IsCommitted, IsRecorded, Commits}
 
 pub record CommitsLast : Type 0 where
   -- an image has committed one value at most
@@ -22,4 +23,4 @@ pub record CommitsLast : Type 0 where
       → RestsAt program v.slot.pc v.current → IsRecorded l program old v → log_bytes l new ≡ log_bytes l old → committed_bytes l new ≡ spelling l v.slot → IsCommitted l program new v
   -- a whole save leaves the old value or the new one, whose entries are recorded before
   pub save : (l : Layout) (program : Checked) (before after : State) (old new : Committed) → IsCommitted l program before.image old → RestsAt program new.slot.pc new.current
-      → IsRecorded l program before.image new → (answer : Answer) → IsSaved l before answer after new.slot → Commits l program old new after.image answer
+      → IsRecorded l program before.image new → IsWellFormed l (spelling l new.slot) → read_slot l (spelling l new.slot) ≡ new.slot → (answer : Answer) → IsSaved l new.slot before answer after → Commits l program old new after.image answer
