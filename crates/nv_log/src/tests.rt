@@ -17,6 +17,15 @@ fn cost(ticks: u32, units: u32) -> Cost
     }
 }
 
+fn layout() -> Layout {
+    Layout {
+        words: 1,
+        tasks: 1,
+        events: 0,
+        log: 2,
+    }
+}
+
 fn device() -> Device {
     Device {
         cap: 100,
@@ -34,15 +43,24 @@ fn device() -> Device {
     }
 }
 
+// Appends an entry where the board is on and the layout has room.
+fn appended(
+    board: &mut AnyBoard,
+    layout: &Layout,
+    place: u32,
+    entry: &LogEntry,
+    by: By,
+) -> Option<Put> {
+    if !board.on() || board.size() < layout.size() || place > layout.log {
+        return None;
+    }
+    Some(append(board, layout, place, entry, by))
+}
+
 #[test]
 fn entries_are_spelled(rt: HostRuntime) -> Result<(), Fail> {
     let alloc = rt.alloc();
-    let layout = Layout {
-        words: 1,
-        tasks: 1,
-        events: 0,
-        log: 2,
-    };
+    let layout = layout();
     let image = vec![in alloc; 7u8; 224]?;
     let Ok(mut board) = AnyBoard::new(alloc, device(), 10, image, Vec::new(alloc)) else {
         return Err("no memory".into());
@@ -60,12 +78,9 @@ fn entries_are_spelled(rt: HostRuntime) -> Result<(), Fail> {
         channel: 2,
         value: 23,
     };
-    assert!(rt; board.on() && layout.size() <= board.size());
-    assert!(rt; append(&mut board, &layout, 0, &ran, By::Write) == Put::Done);
-    assert!(rt; board.on() && layout.size() <= board.size());
-    assert!(rt; append(&mut board, &layout, 1, &out, By::Instr { pc: 5 }) == Put::Done);
-    assert!(rt; board.on() && layout.size() <= board.size());
-    assert!(rt; append(&mut board, &layout, 2, &out, By::Write) == Put::Full);
+    assert!(rt; appended(&mut board, &layout, 0, &ran, By::Write) == Some(Put::Done));
+    assert!(rt; appended(&mut board, &layout, 1, &out, By::Instr { pc: 5 }) == Some(Put::Done));
+    assert!(rt; appended(&mut board, &layout, 2, &out, By::Write) == Some(Put::Full));
     assert_eq!(rt; board.entries(), 3);
     let spelled = [
         0x02, 0x01, 0, 0, 0x2e, 0, 0, 0, 0xc3, 0x01, 0, 0, 0x01, 0, 0, 0, 0x01, 0x02, 0, 0, 0x17,
