@@ -1,4 +1,4 @@
-use Rattle.std.proofs.Common.{ℕ, ◌+◌, ◌-◌, ◌≤◌, arith}
+use Rattle.std.proofs.Common.{◌+◌, ◌-◌, arith}
 use Rattle.demand_core.specs.Demand.{rbf, sbf}
 use Rattle.feasibility.proofs.Lists.{bounded_more}
 use Rattle.feasibility.proofs.kept.most_at_multiples.Goals as goal
