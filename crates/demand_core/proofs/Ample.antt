@@ -40,7 +40,7 @@ jobs_le n t w c h is =
     let same : n / t * c * (t * w) ≡ n / t * t * (w * c) = grind arith in
     subst (λ (m : ℕ). n / t * c * m ≤ n * (w * c)) is (rw same more)
 
-rbf_grows : (base : Base) (loads : List Load) (window l : ℕ) → CanRepeat base loads → IsWindow base.p loads window →
+pub rbf_grows : (base : Base) (loads : List Load) (window l : ℕ) → CanRepeat base loads → IsWindow base.p loads window →
     rbf loads l * window ≤ rbf loads 0 * window + l * energy_use loads window
 unfolding rbf
 rbf_grows base loads window l are is =

@@ -76,6 +76,9 @@ pub fn closing_law()
 
 /// Where a window leaves supply or time over, no great length matters.
 pub fn ample_law()
+    // requests grow no faster than the jobs of a window ask for
+    ensures grows { (base : Base) (loads : List Load) (window l : ℕ) → CanRepeat base loads → IsWindow base.p loads window →
+        rbf loads l * window ≤ rbf loads 0 * window + l * energy_use loads window }
     // no difference is greater than that at length 0
     ensures energy { (base : Base) (loads : List Load) (window l : ℕ) → CanRepeat base loads → IsWindow base.p loads window →
         energy_use loads window ≤ base.q * (window / base.p) → base.q * window ≤ l * (base.q * (window / base.p) - energy_use loads window) →

@@ -1,5 +1,5 @@
 -- What a yes promises at every length.
-use Rattle.std.proofs.Common.{ℕ, ◌+◌, ◌<◌, ◌≤◌, List, length}
+use Rattle.std.proofs.Common.{ℕ, List}
 use Rattle.demand_core.specs.declared.Load.{Load}
 use Rattle.demand_core.specs.declared.Base.{Base}
 use Rattle.feasibility.specs.declared.decide.Verdict.{Verdict}

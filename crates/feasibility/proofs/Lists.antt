@@ -1,5 +1,5 @@
 -- Sums, greatest and least values over the front of a list.
-use Rattle.std.proofs.Common.{◌≡◌, ℕ, zero, suc, ◌+◌, ◌-◌, ◌*◌, ◌/◌, ◌%◌, ◌<◌, ◌≤◌, List, [], ◌∷◌, length, get_or, min, max, fold, ap, subst, arith, refl, mul-le-mul_right, le_trans, below_more}
+use Rattle.std.proofs.Common.{◌≡◌, ℕ, suc, ◌+◌, ◌*◌, ◌/◌, ◌%◌, ◌<◌, ◌≤◌, List, [], ◌∷◌, length, get_or, min, max, fold, ap, subst, arith, refl, mul-le-mul_right, le_trans, below_more}
 use native.Mathlib.Nat.{div-add-mod'}
 use Rattle.std.proofs.lemmas.Nat.{mod_below}
 use Rattle.demand_core.specs.declared.Load.{Load}

@@ -1,5 +1,5 @@
 -- A verdict that is no yes says that the set is not feasible.
-use Rattle.std.proofs.Common.{◌≡◌, ℕ, ◌+◌, ◌<◌, ◌≤◌, ◌⊎◌, inl, inr, List, length, refl, arith}
+use Rattle.std.proofs.Common.{◌≡◌, ℕ, inl, inr, List, refl, arith}
 use Rattle.demand_core.specs.declared.Load.{Load}
 use Rattle.demand_core.specs.declared.Base.{Base}
 use Rattle.feasibility.specs.declared.decide.Verdict.{Verdict}

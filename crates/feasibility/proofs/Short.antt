@@ -1,6 +1,5 @@
 -- Spacings and deadlines are no longer than a window.
-use Rattle.std.proofs.Common.{ℕ, ◌<◌, ◌≤◌, List, All, get_or, arith}
-use Rattle.std.specs.Int.{◌∣◌}
+use Rattle.std.proofs.Common.{ℕ, ◌≤◌, List, All, arith}
 use Rattle.std.proofs.lemmas.Nat.Gcd.{le_of_dvd}
 use Rattle.demand_core.specs.declared.Load.{Load}
 use Rattle.demand_core.specs.declared.Base.{Base}

@@ -1,5 +1,5 @@
 -- The loads of a vector, event by event.
-use Rattle.std.proofs.Common.{◌≡◌, ℕ, suc, zero, ◌+◌, ◌<◌, ◌≤◌, List, [], ◌∷◌, ◌++◌, length, take, get_or, Bool, cond, ◌==◌, inl, inr, refl, sym, subst, ap, ◌∙◌, arith, All, count_by, sum_by, length-append}
+use Rattle.std.proofs.Common.{◌≡◌, ℕ, suc, zero, ◌+◌, ◌<◌, ◌≤◌, List, [], ◌∷◌, ◌++◌, length, take, get_or, Bool, cond, ◌==◌, inl, inr, refl, sym, subst, ap, ◌∙◌, arith, All, count_by, length-append}
 use Rattle.std.specs.Int.{◌∣◌}
 use Rattle.std.proofs.Math.ListN.{get_or-append}
 use Rattle.std.proofs.Math.Seq.{get_or-append_seam}

@@ -1,5 +1,5 @@
 -- Which versions the events run in.
-use Rattle.std.specs.Prelude.{◌≡◌, ℕ, suc, zero, ◌+◌, ◌<◌, ◌≤◌, ◌==◌, List, [], ◌∷◌, ◌++◌, length, take, slice_index_or, count_by}
+use Rattle.std.specs.Prelude.{◌≡◌, ℕ, suc, zero, ◌<◌, ◌≤◌, ◌==◌, List, [], ◌∷◌, ◌++◌, length, take, slice_index_or, count_by}
 use Rattle.demand_core.specs.declared.Load.{Load}
 use Rattle.demand_core.specs.declared.Base.{Base}
 use Rattle.feasibility.specs.declared.decide.Verdict.{Verdict}

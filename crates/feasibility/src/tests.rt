@@ -1,11 +1,16 @@
-ghost use Rattle.std.specs.Prelude.{IsTrue};
+ghost use Rattle.std.specs.Prelude.{◌≡◌, ◌<◌, IsTrue};
 ghost use Rattle.demand_core.specs.Demand.{CanRepeat};
 
-use crate::{Verdict, feasible, plain, reserve};
+use crate::{Verdict, choose_vector, feasible, plain, reserve};
+use cn_base::List;
 use demand_core::{Base, Load, window};
 use std::process::Abort;
+use std::test::Fail;
 
-fn load(spacing: u32, deadline: u32, units: u64, ticks: u64) -> Load {
+fn load(spacing: u32, deadline: u32, units: u64, ticks: u64) -> Load
+    ensures spacing { result.spacing ≡ spacing }
+    ensures deadline { result.deadline ≡ deadline }
+{
     Load {
         spacing,
         deadline,
@@ -14,7 +19,10 @@ fn load(spacing: u32, deadline: u32, units: u64, ticks: u64) -> Load {
     }
 }
 
-fn base(cap: u32, p: u32, q: u32) -> Base {
+fn base(cap: u32, p: u32, q: u32) -> Base
+    ensures p { result.p ≡ p }
+    ensures longest { 0 < result.longest }
+{
     Base {
         cap,
         p,
@@ -249,4 +257,19 @@ fn slow_and_fast_agree(rt: HostRuntime) {
     ] {
         assert_eq!(rt; tested(&rt, &base(cap, p, q), &[x, y, z]), expected);
     }
+}
+
+/// An event whose whole version asks for more than is harvested.
+#[test]
+fn cheaper_version(rt: HostRuntime) -> Result<(), Fail> {
+    let alloc = rt.alloc();
+    let versions = vec![in alloc; load(100, 50, 20, 8), load(100, 50, 15, 6)]?;
+    let tables = vec![in alloc; List::of(versions)]?;
+    let order: [u8; 1] = [0];
+    let Ok(vector) = choose_vector(alloc, &base(100, 20, 3), tables.as_slice(), &order) else {
+        panic!(rt; "rejected");
+    };
+    assert!(rt; vector.versions.as_slice() == [1].as_slice());
+    assert_eq!(rt; (vector.window, vector.reserve), (100, 15));
+    Ok(())
 }

@@ -1,4 +1,4 @@
-use Rattle.std.proofs.Common.{◌≡◌, ◌≤◌, length, List, ap, arith}
+use Rattle.std.proofs.Common.{◌≡◌, length, List, ap, arith}
 use Rattle.demand_core.specs.declared.Load.{Load}
 use Rattle.feasibility.specs.Chosen.{loads_of}
 use Rattle.feasibility.proofs.Vectors.{length-loads_of}

@@ -1,4 +1,4 @@
-use Rattle.std.proofs.Common.{◌≡◌, ℕ, ◌-◌, ◌*◌, ◌/◌, ◌<◌, ◌≤◌, ap₂, subst, arith}
+use Rattle.std.proofs.Common.{◌≡◌, ℕ, ◌-◌, ◌*◌, ◌/◌, ◌≤◌, ap₂, subst, arith}
 use Rattle.demand_core.specs.Demand.{energy_use}
 use Rattle.feasibility.proofs.Lists.{far_enough}
 use Rattle.feasibility.proofs.kept.ample_from.Goals as goal

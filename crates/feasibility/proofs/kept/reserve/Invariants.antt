@@ -1,4 +1,4 @@
-use Rattle.std.proofs.Common.{◌≡◌, ℕ, ◌+◌, ◌-◌, ◌*◌, ◌^◌, ◌<◌, ◌≤◌, All, take}
+use Rattle.std.proofs.Common.{ℕ, ◌-◌, ◌*◌, ◌^◌, ◌<◌, ◌≤◌, All, take}
 use Rattle.demand_core.specs.Demand.{rbf, sbf, reserve}
 use Rattle.feasibility.proofs.kept.reserve.Given as goal
 

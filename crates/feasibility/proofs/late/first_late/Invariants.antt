@@ -1,4 +1,4 @@
-use Rattle.std.proofs.Common.{◌≡◌, ℕ, ◌+◌, ◌-◌, ◌*◌, ◌<◌, ◌≤◌, All, take}
+use Rattle.std.proofs.Common.{ℕ, ◌+◌, ◌*◌, ◌<◌, ◌≤◌, All, take}
 use Rattle.demand_core.specs.Demand.{FitsAt, dbf, block, least_deadline}
 use Rattle.feasibility.proofs.late.first_late.Given as goal
 

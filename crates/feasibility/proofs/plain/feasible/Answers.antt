@@ -1,4 +1,3 @@
-use Rattle.std.proofs.Common.{◌≤◌}
 use Rattle.feasibility.proofs.Short.{deadlines_short}
 use Rattle.feasibility.proofs.plain.feasible.Goals as goal
 
