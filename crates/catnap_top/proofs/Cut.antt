@@ -5,7 +5,7 @@ use Rattle.std.proofs.lemmas.Bool.{cases_lt}
 use Rattle.catnap_top.specs.declared.words.Form.{Form}
 use Rattle.catnap_top.specs.declared.words.Form.TheVariants.{Run}
 use Rattle.catnap_top.specs.Answer.{Answer, most_bytes}
-use Rattle.catnap_top.specs.Run.{RunCallsFor, too_long, no_tokens, no_tree, not_small, runs}
+use Rattle.catnap_top.specs.Run.{RunCallsFor, too_long, no_tokens, no_tree, unchecked, not_small, runs}
 use Rattle.catnap_top.specs.Reply.{CallsFor}
 
 abbrev pub front : List ℕ → List ℕ
@@ -23,7 +23,8 @@ run_long : (steps : ℕ) (file : List ℕ) (due : Answer) → most_bytes < lengt
 run_long steps file due lt more (too_long long e) = too_long (omega arith) e
 run_long steps file due lt more (no_tokens tokens fault kind le lexes of e) = absurd (omega arith)
 run_long steps file due lt more (no_tree tokens fault kind le lexes has of e) = absurd (omega arith)
-run_long steps file due lt more (not_small tokens tree le lexes spelled none e) = absurd (omega arith)
+run_long steps file due lt more (unchecked tokens tree fault kind le lexes spelled has of e) = absurd (omega arith)
+run_long steps file due lt more (not_small tokens tree le lexes spelled checked none e) = absurd (omega arith)
 run_long steps file due lt more (runs words posts body le stands e) = absurd (omega arith)
 
 pub run_cut : (steps : ℕ) (file : List ℕ) (due : Answer) → RunCallsFor steps (front file) due → RunCallsFor steps file due

@@ -10,12 +10,15 @@ use Rattle.cat_tokens.specs.declared.token.Token.{Token}
 use Rattle.cat_tokens.specs.declared.lexer.LexFault.{LexFault}
 use Rattle.cat_tokens.specs.Lexemes.{lexemes}
 use Rattle.cat_tokens.specs.Lexes.{Lexes}
-use Rattle.cn_base.specs.declared.tree.Item.{Item}
+use Rattle.cn_base.specs.declared.tree.Tree.{Tree}
 use Rattle.cat_syntax.specs.declared.fault.SyntaxFault.{SyntaxFault}
 use Rattle.cat_syntax.specs.Spells.{Spells, IsFault}
+use Rattle.cat_conditions.specs.declared.fault.TypeFault.{TypeFault}
+use Rattle.cat_conditions.specs.Pieces.{pieces}
+use Rattle.cat_conditions.specs.Conditions.{IsChecked, IsFault as IsTypeFault}
 use Rattle.catnap_top.specs.declared.refusal.SourceFault.{SourceFault}
 use Rattle.catnap_top.specs.declared.refusal.SourceFault.TheVariants.{TooLong, Early}
-use Rattle.catnap_top.specs.Refusals.{refused, kind_of_token_fault, kind_of_syntax_fault}
+use Rattle.catnap_top.specs.Refusals.{refused, kind_of_token_fault, kind_of_syntax_fault, kind_of_type_fault}
 use Rattle.catnap_top.specs.declared.status.Status.TheVariants.{Done}
 use Rattle.catnap_top.specs.Answer.{Answer, line}
 use Rattle.catnap_top.specs.Small.{StandsFor}
@@ -71,7 +74,12 @@ pub data RunCallsFor (steps : ℕ) (source : List ℕ) (due : Answer) : Type 0 w
   -- brackets are too deep, or the grammar derives the tokens for no tree
   no_tree : (tokens : List Token) (fault : SyntaxFault) (kind : SourceFault) → length source ≤ most_source → Lexes 0 source tokens None
       → IsFault (lexemes source tokens) fault → kind_of_syntax_fault fault ≡ Some kind → due ≡ refused kind → RunCallsFor steps source due
-  not_small : (tokens : List Token) (tree : List Item) → length source ≤ most_source → Lexes 0 source tokens None → Spells (lexemes source tokens) tree
+  -- the tree breaks a condition
+  unchecked : (tokens : List Token) (tree : Tree) (fault : TypeFault) (kind : SourceFault) → length source ≤ most_source → Lexes 0 source tokens None
+      → Spells (lexemes source tokens) tree.items → IsTypeFault (pieces tree) fault → kind_of_type_fault fault ≡ Some kind → due ≡ refused kind
+      → RunCallsFor steps source due
+  not_small : (tokens : List Token) (tree : Tree) → length source ≤ most_source → Lexes 0 source tokens None
+      → Spells (lexemes source tokens) tree.items → IsChecked tree
       → ((words : List ℤ) (posts : List ℕ) (body : List Stmt) → StandsFor source words posts body → ⊥)
       → due ≡ refused Early → RunCallsFor steps source due
   runs : (words : List ℤ) (posts : List ℕ) (body : List Stmt) → length source ≤ most_source → StandsFor source words posts body

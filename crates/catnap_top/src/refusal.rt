@@ -3,8 +3,9 @@
 ghost use Rattle.std.specs.Prelude.{◌≡◌};
 ghost use Rattle.cn_base.specs.Causes.{HasCause};
 ghost use Rattle.cn_base.specs.Writing.{Writes};
-ghost use Rattle.catnap_top.specs.Refusals.{kind_name, refused, kind_of_token_fault, kind_of_syntax_fault};
+ghost use Rattle.catnap_top.specs.Refusals.{kind_name, refused, kind_of_token_fault, kind_of_syntax_fault, kind_of_type_fault};
 
+use cat_conditions::TypeFault;
 use cat_syntax::SyntaxFault;
 use cat_tokens::LexFault;
 use cn_base::{Piece, Sink, WriteFail, put_line};
@@ -19,7 +20,23 @@ pub enum SourceFault {
     NameTooLong,
     TooDeep,
     Syntax,
-    /// It is spelled, but not one that `run` takes yet.
+    BadNumber,
+    TooManyVars,
+    TooManyEvents,
+    TooManyTasks,
+    TooManyVersions,
+    Twice,
+    Unknown,
+    WrongType,
+    WhileInEvent,
+    RepeatInTask,
+    PayloadInTask,
+    DeadlineTooLong,
+    DegradeTooOften,
+    StackTooDeep,
+    HandlerTooLong,
+    CodeTooLong,
+    /// It meets all conditions, but is not one that `run` takes yet.
     Early,
 }
 
@@ -34,6 +51,22 @@ impl SourceFault {
             SourceFault::NameTooLong => b"NameTooLong".as_slice(),
             SourceFault::TooDeep => b"TooDeep".as_slice(),
             SourceFault::Syntax => b"Syntax".as_slice(),
+            SourceFault::BadNumber => b"BadNumber".as_slice(),
+            SourceFault::TooManyVars => b"TooManyVars".as_slice(),
+            SourceFault::TooManyEvents => b"TooManyEvents".as_slice(),
+            SourceFault::TooManyTasks => b"TooManyTasks".as_slice(),
+            SourceFault::TooManyVersions => b"TooManyVersions".as_slice(),
+            SourceFault::Twice => b"Twice".as_slice(),
+            SourceFault::Unknown => b"Unknown".as_slice(),
+            SourceFault::WrongType => b"WrongType".as_slice(),
+            SourceFault::WhileInEvent => b"WhileInEvent".as_slice(),
+            SourceFault::RepeatInTask => b"RepeatInTask".as_slice(),
+            SourceFault::PayloadInTask => b"PayloadInTask".as_slice(),
+            SourceFault::DeadlineTooLong => b"DeadlineTooLong".as_slice(),
+            SourceFault::DegradeTooOften => b"DegradeTooOften".as_slice(),
+            SourceFault::StackTooDeep => b"StackTooDeep".as_slice(),
+            SourceFault::HandlerTooLong => b"HandlerTooLong".as_slice(),
+            SourceFault::CodeTooLong => b"CodeTooLong".as_slice(),
             SourceFault::Early => b"Early".as_slice(),
         }
     }
@@ -75,5 +108,30 @@ pub fn kind_of_syntax_fault(fault: SyntaxFault) -> Option<SourceFault>
         SyntaxFault::NoMemory => None,
         SyntaxFault::TooDeep(_) => Some(SourceFault::TooDeep),
         SyntaxFault::Syntax(_) => Some(SourceFault::Syntax),
+    }
+}
+
+/// The kind of a tree that breaks a condition; none where memory ran out.
+pub fn kind_of_type_fault(fault: TypeFault) -> Option<SourceFault>
+    ensures { result ≡ kind_of_type_fault fault }
+{
+    match fault {
+        TypeFault::NoMemory => None,
+        TypeFault::BadNumber(_) => Some(SourceFault::BadNumber),
+        TypeFault::TooManyVars(_) => Some(SourceFault::TooManyVars),
+        TypeFault::TooManyEvents(_) => Some(SourceFault::TooManyEvents),
+        TypeFault::TooManyTasks(_) => Some(SourceFault::TooManyTasks),
+        TypeFault::TooManyVersions(_) => Some(SourceFault::TooManyVersions),
+        TypeFault::Twice(_) => Some(SourceFault::Twice),
+        TypeFault::Unknown(_) => Some(SourceFault::Unknown),
+        TypeFault::WrongType(_) => Some(SourceFault::WrongType),
+        TypeFault::WhileInEvent(_) => Some(SourceFault::WhileInEvent),
+        TypeFault::RepeatInTask(_) => Some(SourceFault::RepeatInTask),
+        TypeFault::PayloadInTask(_) => Some(SourceFault::PayloadInTask),
+        TypeFault::DeadlineTooLong(_) => Some(SourceFault::DeadlineTooLong),
+        TypeFault::DegradeTooOften(_) => Some(SourceFault::DegradeTooOften),
+        TypeFault::StackTooDeep(_) => Some(SourceFault::StackTooDeep),
+        TypeFault::HandlerTooLong(_) => Some(SourceFault::HandlerTooLong),
+        TypeFault::CodeTooLong(_) => Some(SourceFault::CodeTooLong),
     }
 }

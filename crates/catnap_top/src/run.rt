@@ -8,12 +8,13 @@ ghost use Rattle.catnap_top.specs.Prepared.{prepared_answer, machine_answer, ref
 
 use crate::Status;
 use crate::machine::Machine;
-use crate::refusal::{SourceFault, kind_of_syntax_fault, kind_of_token_fault};
+use crate::refusal::{SourceFault, kind_of_syntax_fault, kind_of_token_fault, kind_of_type_fault};
 use crate::small::small;
 use crate::stop::Stop;
 use cat_program::Stepped;
 use cat_syntax::parse;
 use cat_tokens::{one_lexing, tokens};
+use cat_types::verdict;
 use cn_base::{NoMemory, Piece, Sink, WriteFail, put_line};
 use std::alloc::Global;
 
@@ -123,8 +124,12 @@ pub fn prepare_run(alloc: Global, steps: u32, source: &[u8]) -> Result<Prepared,
         Err(fault) => return refuse(kind_of_token_fault(fault)),
     };
     let tokens = found.as_slice();
-    if let Err(fault) = parse(alloc, tokens, source) {
-        return refuse(kind_of_syntax_fault(fault));
+    let tree = match parse(alloc, tokens, source) {
+        Ok(tree) => tree,
+        Err(fault) => return refuse(kind_of_syntax_fault(fault)),
+    };
+    if let Err(fault) = verdict(alloc, &tree) {
+        return refuse(kind_of_type_fault(fault));
     }
     match small(alloc, tokens, source) {
         Ok(machine) => Ok(Prepared::Ready { steps, machine }),
