@@ -5,7 +5,7 @@ use Rattle.std.proofs.lemmas.Bool.{cases_lt}
 use Rattle.catnap_top.specs.declared.words.Form.{Form}
 use Rattle.catnap_top.specs.declared.words.Form.TheVariants.{Run}
 use Rattle.catnap_top.specs.Answer.{Answer, most_bytes}
-use Rattle.catnap_top.specs.Run.{RunCallsFor, too_long, not_small, runs}
+use Rattle.catnap_top.specs.Run.{RunCallsFor, too_long, no_tokens, no_tree, not_small, runs}
 use Rattle.catnap_top.specs.Reply.{CallsFor}
 
 abbrev pub front : List ℕ → List ℕ
@@ -21,7 +21,9 @@ front_short file le = take_all (most_bytes + 1) file (omega arith)
 run_long : (steps : ℕ) (file : List ℕ) (due : Answer) → most_bytes < length file → most_bytes < length (front file)
     → RunCallsFor steps (front file) due → RunCallsFor steps file due
 run_long steps file due lt more (too_long long e) = too_long (omega arith) e
-run_long steps file due lt more (not_small le none e) = absurd (omega arith)
+run_long steps file due lt more (no_tokens tokens fault kind le lexes of e) = absurd (omega arith)
+run_long steps file due lt more (no_tree tokens fault kind le lexes has of e) = absurd (omega arith)
+run_long steps file due lt more (not_small tokens tree le lexes spelled none e) = absurd (omega arith)
 run_long steps file due lt more (runs words posts body le stands e) = absurd (omega arith)
 
 pub run_cut : (steps : ℕ) (file : List ℕ) (due : Answer) → RunCallsFor steps (front file) due → RunCallsFor steps file due

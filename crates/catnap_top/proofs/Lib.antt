@@ -14,3 +14,4 @@ pub mod Stops
 pub mod Sums
 pub mod Variables
 pub mod Works
+mod Refusing

@@ -2,6 +2,7 @@ pub mod Answer
 pub mod Statuses
 pub mod Words
 pub mod Small
+pub mod Refusals
 pub mod After
 pub mod Exact
 pub mod Machine

@@ -6,7 +6,17 @@ use Rattle.cat_program.specs.declared.syntax.Stepped.{Stepped}
 use Rattle.cat_program.specs.declared.syntax.Stepped.TheVariants.{Out}
 use Rattle.cat_program.specs.Body.{Body}
 use Rattle.cat_program.specs.Meaning.{TaskState, TaskStep, task_step_of}
-use Rattle.catnap_top.specs.declared.status.Status.TheVariants.{Done, BadSource}
+use Rattle.cat_tokens.specs.declared.token.Token.{Token}
+use Rattle.cat_tokens.specs.declared.lexer.LexFault.{LexFault}
+use Rattle.cat_tokens.specs.Lexemes.{lexemes}
+use Rattle.cat_tokens.specs.Lexes.{Lexes}
+use Rattle.cn_base.specs.declared.tree.Item.{Item}
+use Rattle.cat_syntax.specs.declared.fault.SyntaxFault.{SyntaxFault}
+use Rattle.cat_syntax.specs.Spells.{Spells, IsFault}
+use Rattle.catnap_top.specs.declared.refusal.SourceFault.{SourceFault}
+use Rattle.catnap_top.specs.declared.refusal.SourceFault.TheVariants.{TooLong, Early}
+use Rattle.catnap_top.specs.Refusals.{refused, kind_of_token_fault, kind_of_syntax_fault}
+use Rattle.catnap_top.specs.declared.status.Status.TheVariants.{Done}
 use Rattle.catnap_top.specs.Answer.{Answer, line}
 use Rattle.catnap_top.specs.Small.{StandsFor}
 use Rattle.catnap_top.specs.Machine.{body_from}
@@ -48,19 +58,21 @@ ran steps bodies words posts = record { status = Done; text = run_text (answers 
 abbrev pub one_body : List Stmt → ℕ → Body
 one_body body task = body_from body 0
 
--- the source is too long, or not one that `run` takes yet
-abbrev pub early : Answer
-early = record { status = BadSource; text = codes "fault source Early\n" }
-
 -- the greatest source, in bytes
 abbrev pub most_source : ℕ
 most_source = 262144
 
--- what `run` with so many steps calls for over a source's bytes
+-- What `run` with so many steps calls for over a source's bytes: the first refusal in this order that applies, or the run.
 pub data RunCallsFor (steps : ℕ) (source : List ℕ) (due : Answer) : Type 0 where
-  too_long : most_source < length source → due ≡ early → RunCallsFor steps source due
-  not_small : length source ≤ most_source
+  too_long : most_source < length source → due ≡ refused TooLong → RunCallsFor steps source due
+  -- the text has tokens up to a first place without one
+  no_tokens : (tokens : List Token) (fault : LexFault) (kind : SourceFault) → length source ≤ most_source → Lexes 0 source tokens (Some fault)
+      → kind_of_token_fault fault ≡ Some kind → due ≡ refused kind → RunCallsFor steps source due
+  -- brackets are too deep, or the grammar derives the tokens for no tree
+  no_tree : (tokens : List Token) (fault : SyntaxFault) (kind : SourceFault) → length source ≤ most_source → Lexes 0 source tokens None
+      → IsFault (lexemes source tokens) fault → kind_of_syntax_fault fault ≡ Some kind → due ≡ refused kind → RunCallsFor steps source due
+  not_small : (tokens : List Token) (tree : List Item) → length source ≤ most_source → Lexes 0 source tokens None → Spells (lexemes source tokens) tree
       → ((words : List ℤ) (posts : List ℕ) (body : List Stmt) → StandsFor source words posts body → ⊥)
-      → due ≡ early → RunCallsFor steps source due
+      → due ≡ refused Early → RunCallsFor steps source due
   runs : (words : List ℤ) (posts : List ℕ) (body : List Stmt) → length source ≤ most_source → StandsFor source words posts body
       → due ≡ ran steps (one_body body) words posts → RunCallsFor steps source due

@@ -4,6 +4,7 @@
 mod cursor;
 mod machine;
 mod reading;
+mod refusal;
 mod reply;
 mod run;
 mod small;

@@ -4,15 +4,17 @@ ghost use Rattle.std.specs.Prelude.{◌≡◌, ◌≤◌, IfOk, length};
 ghost use Rattle.cn_base.specs.Causes.{HasCause};
 ghost use Rattle.cn_base.specs.Writing.{Writes};
 ghost use Rattle.catnap_top.specs.Run.{RunCallsFor, out_line, steps_line};
-ghost use Rattle.catnap_top.specs.Prepared.{prepared_answer, machine_answer};
+ghost use Rattle.catnap_top.specs.Prepared.{prepared_answer, machine_answer, refused_run};
 
 use crate::Status;
 use crate::machine::Machine;
+use crate::refusal::{SourceFault, kind_of_syntax_fault, kind_of_token_fault};
 use crate::small::small;
 use crate::stop::Stop;
 use cat_program::Stepped;
-use cat_tokens::{LexFault, one_lexing, tokens};
-use cn_base::{NoMemory, Piece, Sink, WriteFail, put, put_line};
+use cat_syntax::parse;
+use cat_tokens::{one_lexing, tokens};
+use cn_base::{NoMemory, Piece, Sink, WriteFail, put_line};
 use std::alloc::Global;
 
 /// The greatest source, in bytes.
@@ -21,8 +23,7 @@ const MOST_SOURCE: usize = 262_144;
 /// A run for which all memory has been taken.
 #[derive(Drop)]
 pub enum Prepared {
-    /// The source is too long, or not one that `run` takes yet.
-    Early,
+    Refused(SourceFault),
     Ready { steps: u32, machine: Machine },
 }
 
@@ -83,7 +84,7 @@ impl Prepared {
         ensures { result ≡ (prepared_answer self.now).status }
     {
         match self {
-            Prepared::Early => Status::BadSource,
+            Prepared::Refused(_) => Status::BadSource,
             Prepared::Ready { .. } => Status::Done,
         }
     }
@@ -93,9 +94,19 @@ impl Prepared {
         ensures cause { HasCause (K.faults sink.old) (K.faults sink.new) result }
     {
         match self {
-            Prepared::Early => put(sink, b"fault source Early\n"),
+            Prepared::Refused(kind) => kind.write(sink),
             Prepared::Ready { steps, machine } => write_run(sink, steps, machine),
         }
+    }
+}
+
+/// The refusal of this kind, or want of memory.
+fn refuse(kind: Option<SourceFault>) -> Result<Prepared, NoMemory>
+    ensures { result ≡ refused_run kind }
+{
+    match kind {
+        Some(kind) => Ok(Prepared::Refused(kind)),
+        None => Err(NoMemory),
     }
 }
 
@@ -104,17 +115,20 @@ pub fn prepare_run(alloc: Global, steps: u32, source: &[u8]) -> Result<Prepared,
     ensures { IfOk result (λ prepared. RunCallsFor steps source.now (prepared_answer prepared)) }
 {
     if source.len() > MOST_SOURCE {
-        return Ok(Prepared::Early);
+        return Ok(Prepared::Refused(SourceFault::TooLong));
     }
     one_lexing();
-    let tokens = match tokens(alloc, source) {
-        Ok(tokens) => tokens,
-        Err(LexFault::NoMemory) => return Err(NoMemory),
-        Err(_) => return Ok(Prepared::Early),
+    let found = match tokens(alloc, source) {
+        Ok(found) => found,
+        Err(fault) => return refuse(kind_of_token_fault(fault)),
     };
-    match small(alloc, tokens.as_slice(), source) {
+    let tokens = found.as_slice();
+    if let Err(fault) = parse(alloc, tokens, source) {
+        return refuse(kind_of_syntax_fault(fault));
+    }
+    match small(alloc, tokens, source) {
         Ok(machine) => Ok(Prepared::Ready { steps, machine }),
-        Err(Stop::Early) => Ok(Prepared::Early),
+        Err(Stop::Early) => Ok(Prepared::Refused(SourceFault::Early)),
         Err(Stop::NoMemory) => Err(NoMemory),
     }
 }

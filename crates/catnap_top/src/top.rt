@@ -57,9 +57,10 @@ fn respond<I: Inputs, K: Sink>(
 /// these are. All memory is taken before the first byte is written.
 ///
 /// Refusals: `Usage` where the words are of no form; `ReadFault` only where the inputs' count of
-/// faults rose; `BadSource` where the source has more than 262,144 bytes or is not a small one; each
-/// of these writes one fault line. `WriteFault` only where the sink's count of faults rose, and a
-/// proper prefix of the text has been written then. `NoMemory` before the first byte is written.
+/// faults rose; `BadSource` where the source has more than 262,144 bytes, has no tokens or no tree,
+/// or is not a small one, with the first of these kinds; each of these writes one fault line.
+/// `WriteFault` only where the sink's count of faults rose, and a proper prefix of the text has been
+/// written then. `NoMemory` before the first byte is written.
 pub fn catnap<I: Inputs, K: Sink>(
     alloc: Global,
     words: &[String],
