@@ -59,30 +59,32 @@ fn runs_small_sources(rt: HostRuntime) -> Result<(), Fail> {
 #[test]
 fn refuses_other_sources(rt: HostRuntime) -> Result<(), Fail> {
     let words = words(rt.alloc(), "run", "s1", "9")?;
-    for source in [
-        "int x = 0; task t { x = (x); } start t;",
-        "int x = 0; task t { x = x * 2; } start t;",
-        "task t { out 1, -1; } start t;",
-        "task t { out 256, 1; } start t;",
-        "task t { x = 1; } start t;",
-        "task t { } start u;",
-        "task t { }",
-        "task t { } task u { } start t;",
-        "task t { } start t; int x = 0;",
-        "int t = 0; task t { } start t;",
-        "int x = 0; int x = 1;",
-        "int x = 2147483648;",
-        "bool x = true;",
-        "int x = 0",
-        "int $",
+    for (source, text) in [
+        (
+            "int x = 0; task t { x = (x); } start t;",
+            "fault source Early\n",
+        ),
+        (
+            "int x = 0; task t { x = x * 2; } start t;",
+            "fault source Early\n",
+        ),
+        ("task t { out 1, -1; } start t;", "fault source Early\n"),
+        ("task t { out 256, 1; } start t;", "fault source Early\n"),
+        ("task t { x = 1; } start t;", "fault source Early\n"),
+        ("task t { } start u;", "fault source Early\n"),
+        ("task t { }", "fault source Early\n"),
+        ("task t { } task u { } start t;", "fault source Early\n"),
+        ("task t { } start t; int x = 0;", "fault source Early\n"),
+        ("int t = 0; task t { } start t;", "fault source Early\n"),
+        ("int x = 0; int x = 1;", "fault source Early\n"),
+        ("bool x = true;", "fault source Early\n"),
+        ("int x = 2147483648;", "fault source IntTooLarge\n"),
+        ("int x = 0", "fault source Syntax\n"),
+        ("int $", "fault source BadByte\n"),
     ] {
         let got = get(rt.alloc(), words.as_slice(), source.as_bytes(), 100)?;
         assert_eq!(rt; got.status.number(), 5, "{source}");
-        assert_eq!(rt;
-            got.sink.bytes(),
-            b"fault source Early\n".as_slice(),
-            "{source}"
-        );
+        assert_eq!(rt; got.sink.bytes(), text.as_bytes(), "{source}");
     }
     Ok(())
 }
