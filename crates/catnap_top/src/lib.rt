@@ -11,6 +11,8 @@ mod small;
 mod status;
 mod stop;
 mod sum;
+#[cfg(test)]
+mod tests;
 mod top;
 mod value;
 mod words;

@@ -25,7 +25,7 @@ impl Form {
 /// A number word: some decimal digits, of a value that is not too great.
 #[tactic(auto, using(crate::proofs::Digits::value_from_le))]
 fn number(word: &str, most: usize, limit: u32) -> Option<u32>
-    requires { limit ≤ 1000000 }
+    requires { limit ≤ 100000000 }
     ensures { result ≡ number_of most limit word.now }
 {
     let bytes = word.as_bytes();
