@@ -1,0 +1,1 @@
+print("task t { " + "out 1,1;" * 29999 + "post t; }")

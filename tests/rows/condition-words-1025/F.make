@@ -1,0 +1,1 @@
+print("".join(f"int v{i} = 0;" for i in range(1025)))
