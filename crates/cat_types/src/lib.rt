@@ -1,0 +1,4 @@
+//! Whether a source meets the conditions.
+#![tactic(auto)]
+
+pub mod pieces;
