@@ -76,3 +76,7 @@ action_loop e xs = ap (fold-Stmt Action action_layer) (sym (stmt.rolls-While e x
 pub action_turns : (n : ℕ) (xs : List Stmt) → action_of (stmt.Repeat n xs) ≡ turns n (block_of xs)
 unfolding action_of
 action_turns n xs = ap (fold-Stmt Action action_layer) (sym (stmt.rolls-Repeat n xs)) ∙ fold-roll-Stmt Action action_layer (Stmt-F.Repeat n xs)
+
+pub ruleset term_laws = (term_number, term_truth, term_payload, term_name, term_element, term_signed, term_chain, term_compare)
+
+pub ruleset action_laws = (action_set, action_set_at, action_out, action_post, action_if, action_loop, action_turns)
