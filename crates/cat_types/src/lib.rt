@@ -3,3 +3,5 @@
 
 pub mod pieces;
 pub mod rules;
+pub mod names;
+pub mod counts;
