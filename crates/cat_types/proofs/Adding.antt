@@ -1,11 +1,12 @@
 -- How added pieces come together.
-use Rattle.std.proofs.Common.{◌≡◌, ℕ, ◌+◌, ◌≤◌, ◌<◌, suc, Bool, add-one, get_or, List, [], ◌∷◌, ◌++◌, drop, length, map, refl, ap, sym, ◌∙◌, append_assoc}
+use Rattle.std.proofs.Common.{◌≡◌, ℕ, ◌+◌, ◌≤◌, ◌<◌, max, suc, Bool, add-one, get_or, List, [], ◌∷◌, ◌++◌, drop, length, map, refl, ap, sym, ◌∙◌, append_assoc}
 use Rattle.std.proofs.lemmas.List.{map-append, append-nil}
 use Rattle.std.proofs.Math.ListN.{drop_of_length-le}
 use Rattle.std.proofs.Math.Seq.{drop-cons}
 use Rattle.cn_base.specs.declared.tree.Further.{Further, out-Further}
 use Rattle.cat_conditions.specs.Plain.{term_of, further_of, furthers_of}
 use Rattle.cat_conditions.specs.Pieces.{term_pieces, further_terms}
+use Rattle.cat_conditions.specs.Counts.{size, further_size, need, further_need}
 use Rattle.cat_conditions.proofs.PlainLaws.{further_out}
 use Rattle.cat_types.specs.declared.pieces.Piece.{Piece}
 use Rattle.cat_types.specs.Shown.{shown, all_shown, Adds}
@@ -46,3 +47,15 @@ item_next xs i x e h = rw add-one (drop-cons xs i x h ∙ ap (λ y. y ∷ drop (
 pub further_next : (event : Bool) (f : Further) (fs : List Further)
     → further_terms event (furthers_of (map further_of (f ∷ fs))) ≡ term_pieces event (term_of (out-Further f).operand) ++ further_terms event (furthers_of (map further_of fs))
 further_next event f fs = ap (λ p. further_terms event (furthers_of (p ∷ map further_of fs))) (further_out f)
+
+pub size_next : (xs : List Further) (i : ℕ) (f : Further) → f ≡ get_or xs i f → i < length xs
+    → further_size (furthers_of (map further_of (drop i xs))) ≡ size (term_of (out-Further f).operand) + 1 + further_size (furthers_of (map further_of (drop (i + 1) xs)))
+size_next xs i f e h =
+    ap (λ fs. further_size (furthers_of (map further_of fs))) (item_next xs i f e h)
+    ∙ ap (λ p. further_size (furthers_of (p ∷ map further_of (drop (i + 1) xs)))) (further_out f)
+
+pub need_next : (xs : List Further) (i : ℕ) (f : Further) → f ≡ get_or xs i f → i < length xs
+    → further_need (furthers_of (map further_of (drop i xs))) ≡ max (need (term_of (out-Further f).operand) + 1) (further_need (furthers_of (map further_of (drop (i + 1) xs))))
+need_next xs i f e h =
+    ap (λ fs. further_need (furthers_of (map further_of fs))) (item_next xs i f e h)
+    ∙ ap (λ p. further_need (furthers_of (p ∷ map further_of (drop (i + 1) xs)))) (further_out f)

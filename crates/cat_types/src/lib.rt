@@ -3,5 +3,7 @@
 
 pub mod pieces;
 pub mod rules;
+pub mod sizes;
+pub mod types;
 pub mod names;
 pub mod counts;

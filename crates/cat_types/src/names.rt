@@ -59,10 +59,10 @@ fn declare<'a>(names: &mut Names<'a>, piece: &Piece<'a>) -> Result<bool, NoMemor
     if names.sorts.contains_key(name) {
         return Ok(true);
     }
-    if names.sorts.insert(name, sort).is_err() {
-        return Err(NoMemory);
+    match names.sorts.insert(name, sort) {
+        Ok(_) => Ok(false),
+        Err(_) => Err(NoMemory),
     }
-    Ok(false)
 }
 
 /// The declared names, or the place of the first one that is declared a second time.

@@ -1,0 +1,1 @@
+use Rattle.cat_types.proofs.names.declare.Goals as goal

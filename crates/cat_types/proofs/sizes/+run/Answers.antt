@@ -1,0 +1,10 @@
+use Rattle.std.proofs.Common.{ap, arith}
+use Rattle.cat_conditions.specs.Plain.{block_of}
+use Rattle.cat_conditions.specs.Counts.{block_run}
+use Rattle.cat_types.proofs.Adding.{item_next}
+use Rattle.cat_types.proofs.sizes.+run.Goals as goal
+
+pub block_run-loop-statement-preserved : goal.block_run-loop-statement-preserved
+block_run-loop-statement-preserved t c =
+    let next = ap (λ block. block_run (block_of block)) (item_next c.args.block.now c.loop-statement.statement-index c.statement-item.result c.statement-item.is c.loop-statement-test.true) in
+    record { same = omega (arith, next, c.loop-statement.invariant.same, c.statement_run.ensures, c.add-sum.ensures); small = omega (arith, c.add-sum.ensures) }
