@@ -1,14 +1,18 @@
 //! Pieces that offend by themselves.
 
-ghost use Rattle.std.specs.Prelude.{◌≡◌, ◌<◌, ◌^◌, length};
+ghost use Rattle.std.specs.Prelude.{◌≡◌, ◌<◌, ◌^◌, nat_lt, length};
 ghost use Rattle.cat_conditions.specs.Local as spec;
+ghost use Rattle.cat_conditions.specs.Counts as counts;
+ghost use Rattle.std.specs.List.{list_any};
 ghost use Rattle.cat_conditions.specs.Plain.{action_of, term_of};
 ghost use Rattle.cat_types.specs.Shown.{shown, all_shown};
 ghost use Rattle.cat_conditions.specs.Offences.{At, Finds};
 ghost use Rattle.cat_types.specs.Rules.{is_broken};
 
 use crate::pieces::Piece;
+use crate::sizes;
 use cn_base::tree::{Expr, Item, Stmt, Timing};
+use sqlite_items::Items;
 
 /// A condition that a piece breaks by itself.
 #[derive(Clone, Copy)]
@@ -19,6 +23,8 @@ pub enum Rule {
     NoRepeatInTasks,
     NoPayloadInTasks,
     DeadlinesInTime,
+    OperandsFit,
+    HandlersShort,
 }
 
 impl Rule {
@@ -32,6 +38,8 @@ impl Rule {
             Rule::NoRepeatInTasks => is_task_turns(piece),
             Rule::NoPayloadInTasks => is_task_payload(piece),
             Rule::DeadlinesInTime => is_late(piece),
+            Rule::OperandsFit => needs_too_many(piece),
+            Rule::HandlersShort => runs_too_long(piece),
         }
     }
 
@@ -184,6 +192,37 @@ fn is_late(piece: &Piece<'_>) -> bool
 {
     match piece {
         Piece::Item(Item::Event(_, timing, deadline, _)) => least_gap(*timing) < *deadline,
+        _ => false,
+    }
+}
+
+/// Whether it is a statement that needs more operands than the repeats around it leave.
+fn needs_too_many(piece: &Piece<'_>) -> bool
+    ensures { result ≡ counts.needs_too_many (shown piece.now) }
+{
+    match piece {
+        Piece::Statement(_, room, statement) => (*room as u32) < sizes::statement_need(statement),
+        Piece::Item(_) | Piece::Expression(..) => false,
+    }
+}
+
+fn has_long_version(versions: &[Items<Stmt>]) -> bool
+    ensures { result ≡ list_any (λ version. nat_lt 1000000 (counts.version_run version)) versions.now }
+{
+    for version in versions {
+        if sizes::block_run(version.as_slice()) >= 1_000_000 {
+            return true;
+        }
+    }
+    false
+}
+
+/// Whether it is an event with a version that may run too many instructions.
+fn runs_too_long(piece: &Piece<'_>) -> bool
+    ensures { result ≡ counts.runs_too_long (shown piece.now) }
+{
+    match piece {
+        Piece::Item(Item::Event(_, _, _, versions)) => has_long_version(versions.as_slice()),
         _ => false,
     }
 }

@@ -9,13 +9,19 @@ ghost use Rattle.cat_types.specs.Capped.{capped};
 use cn_base::tree::{Expr, Further, Stmt};
 
 /// One more than each limit.
-const MANY: u32 = 1_000_001;
+pub const MANY: u32 = 1_000_001;
 
-fn add(a: u32, b: u32) -> u32
+pub fn add(a: u32, b: u32) -> u32
     requires small { (a ≤ 1000001) × (b ≤ 1000001) }
     ensures { result ≡ capped (a + b) }
 {
     (a + b).min(MANY)
+}
+
+fn larger(a: u32, b: u32) -> u32
+    ensures { result ≡ max a b }
+{
+    if a < b { b } else { a }
 }
 
 /// How many instructions an expression has.
@@ -54,8 +60,8 @@ pub fn need(expr: &Expr) -> u32
         Expr::Number(_) | Expr::Truth(_) | Expr::Payload | Expr::Name(_) => 1,
         Expr::Element(_, index) => need(index.get()),
         Expr::Signed(_, operand) => need(operand.get()),
-        Expr::Chain(first, others) => need(first.get()).max(further_need(others.as_slice())),
-        Expr::Compare(first, _, second) => need(first.get()).max(add(need(second.get()), 1)),
+        Expr::Chain(first, others) => larger(need(first.get()), further_need(others.as_slice())),
+        Expr::Compare(first, _, second) => larger(need(first.get()), add(need(second.get()), 1)),
     }
 }
 
@@ -65,7 +71,7 @@ fn further_need(others: &[Further]) -> u32
 {
     let mut most = 0;
     for other in others {
-        most = most.max(add(need(&other.operand), 1));
+        most = larger(most, add(need(&other.operand), 1));
     }
     most
 }
@@ -77,7 +83,7 @@ pub fn statement_need(statement: &Stmt) -> u32
 {
     match statement {
         Stmt::Set(_, value) | Stmt::Out(_, value) => need(value),
-        Stmt::SetAt(_, index, value) => need(index).max(add(need(value), 1)),
+        Stmt::SetAt(_, index, value) => larger(need(index), add(need(value), 1)),
         Stmt::Post(_) => 0,
         Stmt::If(test, ..) | Stmt::While(test, _) => need(test),
         Stmt::Repeat(..) => 1,
@@ -140,7 +146,7 @@ fn statement_run(statement: &Stmt) -> u32
             let test = add(size(test), 1);
             let first = block_run(first.as_slice());
             match second {
-                Some(second) => add(test, add(first, 1).max(block_run(second.as_slice()))),
+                Some(second) => add(test, larger(add(first, 1), block_run(second.as_slice()))),
                 None => add(test, first),
             }
         }
