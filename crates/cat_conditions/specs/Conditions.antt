@@ -6,7 +6,7 @@ use Rattle.cat_conditions.specs.declared.fault.TypeFault.TheVariants as fault
 use Rattle.cat_conditions.specs.Pieces.{Piece, pieces}
 use Rattle.cat_conditions.specs.Offences.{At, Exceeds, NoneOf, IsFirst}
 use Rattle.cat_conditions.specs.Local.{is_out_of_range, has_many_versions, is_event_loop, is_task_turns, is_task_payload, is_late}
-use Rattle.cat_conditions.specs.Names.{declaration, declarations, is_declared_before, has_unknown_name}
+use Rattle.cat_conditions.specs.Names.{declaration, declarations, sort_of, is_declared_before, has_unknown_name}
 use Rattle.cat_conditions.specs.Types.{has_wrong_type}
 use Rattle.cat_conditions.specs.Counts.{words, one_event, one_task, versions_of, mentioned, degrades_too_often, needs_too_many, runs_too_long, task_size, event_size}
 
@@ -49,8 +49,8 @@ Offends few_events ps = Exceeds one_event 16 ps
 Offends few_tasks ps = Exceeds one_task 16 ps
 Offends few_versions ps = At has_many_versions ps
 Offends names_differ ps = DeclaresTwice ps
-Offends names_known ps = At (has_unknown_name (declarations ps)) ps
-Offends types_agree ps = At (has_wrong_type (declarations ps)) ps
+Offends names_known ps = At (has_unknown_name (sort_of (declarations ps))) ps
+Offends types_agree ps = At (has_wrong_type (sort_of (declarations ps))) ps
 Offends no_while_in_events ps = At is_event_loop ps
 Offends no_repeat_in_tasks ps = At is_task_turns ps
 Offends no_payload_in_tasks ps = At is_task_payload ps

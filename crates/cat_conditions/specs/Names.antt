@@ -31,7 +31,10 @@ Declared = List (Name × Sort)
 abbrev pub declarations : List Piece → Declared
 declarations = filter_map declaration
 
--- as what a name is declared
+-- as what each name is declared
+abbrev pub Sorts : Type 0
+Sorts = Name → Option Sort
+
 abbrev pub sort_of : Declared → Name → Option Sort
 sort_of declared x = lookup (λ y. bytes_eq x y) declared
 
@@ -62,5 +65,5 @@ used_names (an_item i) = item_names i
 used_names (a_statement event room a) = action_names a
 used_names (an_expression event t) = term_names t
 
-abbrev pub has_unknown_name : Declared → Piece → Bool
-has_unknown_name declared p = list_any (λ x. not (is_some (sort_of declared x))) (used_names p)
+abbrev pub has_unknown_name : Sorts → Piece → Bool
+has_unknown_name sorts p = list_any (λ x. not (is_some (sorts x))) (used_names p)

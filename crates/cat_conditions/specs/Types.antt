@@ -15,7 +15,7 @@ use Rattle.cat_conditions.specs.declared.sort.ValueType.{ValueType}
 use Rattle.cat_conditions.specs.declared.sort.ValueType.TheVariants as type
 use Rattle.cat_conditions.specs.Plain.{Term, number, truth, payload, variable, element, signed, chain, compare, Furthers, no_further, further, Action, set, set_at, out, post, choose, loop}
 use Rattle.cat_conditions.specs.Pieces.{Piece, an_item, a_statement, an_expression}
-use Rattle.cat_conditions.specs.Names.{Name, Declared, sort_of}
+use Rattle.cat_conditions.specs.Names.{Name, Sorts}
 
 -- the type of a plain variable
 abbrev pub plain_type : Option Sort → Option ValueType
@@ -60,15 +60,15 @@ chain_type no_further = None
 chain_type (further o operand others) = Some (operator_type o)
 
 -- none where it agrees with every type
-abbrev pub type_of : Declared → Term → Option ValueType
-type_of declared (number n) = Some type.Int
-type_of declared (truth b) = Some type.Bool
-type_of declared payload = Some type.Int
-type_of declared (variable x) = plain_type (sort_of declared x)
-type_of declared (element x index) = element_type (sort_of declared x)
-type_of declared (signed s operand) = Some (sign_type s)
-type_of declared (chain first others) = chain_type others
-type_of declared (compare first c second) = Some type.Bool
+abbrev pub type_of : Sorts → Term → Option ValueType
+type_of sorts (number n) = Some type.Int
+type_of sorts (truth b) = Some type.Bool
+type_of sorts payload = Some type.Int
+type_of sorts (variable x) = plain_type (sorts x)
+type_of sorts (element x index) = element_type (sorts x)
+type_of sorts (signed s operand) = Some (sign_type s)
+type_of sorts (chain first others) = chain_type others
+type_of sorts (compare first c second) = Some type.Bool
 
 abbrev pub is_same : ValueType → ValueType → Bool
 is_same type.Int type.Int = true
@@ -79,48 +79,48 @@ abbrev pub agrees : Option ValueType → Option ValueType → Bool
 agrees (Some t) (Some u) = is_same t u
 agrees _ _ = true
 
-abbrev pub is_of : Declared → ValueType → Term → Bool
-is_of declared t e = agrees (Some t) (type_of declared e)
+abbrev pub is_of : Sorts → ValueType → Term → Bool
+is_of sorts t e = agrees (Some t) (type_of sorts e)
 
 -- the further operands and their operators are of the chain's type
-abbrev pub furthers_are_of : Declared → ValueType → Furthers → Bool
-furthers_are_of declared t no_further = true
-furthers_are_of declared t (further o operand others) = is_same t (operator_type o) && is_of declared t operand && furthers_are_of declared t others
+abbrev pub furthers_are_of : Sorts → ValueType → Furthers → Bool
+furthers_are_of sorts t no_further = true
+furthers_are_of sorts t (further o operand others) = is_same t (operator_type o) && is_of sorts t operand && furthers_are_of sorts t others
 
-abbrev pub agrees_in_chain : Declared → Term → Furthers → Bool
-agrees_in_chain declared first no_further = true
-agrees_in_chain declared first (further o operand others) = is_of declared (operator_type o) first && furthers_are_of declared (operator_type o) (further o operand others)
+abbrev pub agrees_in_chain : Sorts → Term → Furthers → Bool
+agrees_in_chain sorts first no_further = true
+agrees_in_chain sorts first (further o operand others) = is_of sorts (operator_type o) first && furthers_are_of sorts (operator_type o) (further o operand others)
 
 -- `==` and `!=` take two of one type, the others take two numbers
-abbrev pub agrees_in_comparison : Declared → Term → Comparison → Term → Bool
-agrees_in_comparison declared first comparison.Eq second = agrees (type_of declared first) (type_of declared second)
-agrees_in_comparison declared first comparison.Ne second = agrees (type_of declared first) (type_of declared second)
-agrees_in_comparison declared first _ second = is_of declared type.Int first && is_of declared type.Int second
+abbrev pub agrees_in_comparison : Sorts → Term → Comparison → Term → Bool
+agrees_in_comparison sorts first comparison.Eq second = agrees (type_of sorts first) (type_of sorts second)
+agrees_in_comparison sorts first comparison.Ne second = agrees (type_of sorts first) (type_of sorts second)
+agrees_in_comparison sorts first _ second = is_of sorts type.Int first && is_of sorts type.Int second
 
 -- the name that stands in it is of the needed sort, and it takes the types that it gets
-abbrev pub term_agrees : Declared → Term → Bool
-term_agrees declared (variable x) = is_plain (sort_of declared x)
-term_agrees declared (element x index) = is_array (sort_of declared x) && is_of declared type.Int index
-term_agrees declared (signed s operand) = is_of declared (sign_type s) operand
-term_agrees declared (chain first others) = agrees_in_chain declared first others
-term_agrees declared (compare first c second) = agrees_in_comparison declared first c second
-term_agrees declared _ = true
+abbrev pub term_agrees : Sorts → Term → Bool
+term_agrees sorts (variable x) = is_plain (sorts x)
+term_agrees sorts (element x index) = is_array (sorts x) && is_of sorts type.Int index
+term_agrees sorts (signed s operand) = is_of sorts (sign_type s) operand
+term_agrees sorts (chain first others) = agrees_in_chain sorts first others
+term_agrees sorts (compare first c second) = agrees_in_comparison sorts first c second
+term_agrees sorts _ = true
 
-abbrev pub action_agrees : Declared → Action → Bool
-action_agrees declared (set x value) = is_plain (sort_of declared x) && agrees (plain_type (sort_of declared x)) (type_of declared value)
-action_agrees declared (set_at x index value) = is_array (sort_of declared x) && is_of declared type.Int index && is_of declared type.Int value
-action_agrees declared (out channel value) = is_of declared type.Int value
-action_agrees declared (post x) = is_task (sort_of declared x)
-action_agrees declared (choose test first second) = is_of declared type.Bool test
-action_agrees declared (loop test body) = is_of declared type.Bool test
-action_agrees declared _ = true
+abbrev pub action_agrees : Sorts → Action → Bool
+action_agrees sorts (set x value) = is_plain (sorts x) && agrees (plain_type (sorts x)) (type_of sorts value)
+action_agrees sorts (set_at x index value) = is_array (sorts x) && is_of sorts type.Int index && is_of sorts type.Int value
+action_agrees sorts (out channel value) = is_of sorts type.Int value
+action_agrees sorts (post x) = is_task (sorts x)
+action_agrees sorts (choose test first second) = is_of sorts type.Bool test
+action_agrees sorts (loop test body) = is_of sorts type.Bool test
+action_agrees sorts _ = true
 
-abbrev pub item_agrees : Declared → Item → Bool
-item_agrees declared (item.Degrade names) = not (list_any (λ x. not (is_event (sort_of declared x))) names)
-item_agrees declared (item.Start x) = is_task (sort_of declared x)
-item_agrees declared _ = true
+abbrev pub item_agrees : Sorts → Item → Bool
+item_agrees sorts (item.Degrade names) = not (list_any (λ x. not (is_event (sorts x))) names)
+item_agrees sorts (item.Start x) = is_task (sorts x)
+item_agrees sorts _ = true
 
-abbrev pub has_wrong_type : Declared → Piece → Bool
-has_wrong_type declared (an_item i) = not (item_agrees declared i)
-has_wrong_type declared (a_statement event room a) = not (action_agrees declared a)
-has_wrong_type declared (an_expression event t) = not (term_agrees declared t)
+abbrev pub has_wrong_type : Sorts → Piece → Bool
+has_wrong_type sorts (an_item i) = not (item_agrees sorts i)
+has_wrong_type sorts (a_statement event room a) = not (action_agrees sorts a)
+has_wrong_type sorts (an_expression event t) = not (term_agrees sorts t)

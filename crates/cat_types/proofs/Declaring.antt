@@ -59,3 +59,7 @@ pub not_before : (declared : Declared) (d : Option (Name × Sort)) (old new : Na
     → Grows old new d false → is_declared_before declared d ≡ false
 not_before declared None old new are grows = refl
 not_before declared (Some d) old new are grows = ap is_some (sym (are d.0) ∙ grows.0)
+
+pub none_of : {A : Type 0} (o : Option A) → false ≡ is_some o → o ≡ None
+none_of None h = refl
+none_of (Some a) h = absurd (cc)

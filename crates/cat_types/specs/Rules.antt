@@ -1,5 +1,5 @@
 -- Which pieces break a rule.
-use Rattle.std.specs.Prelude.{◌≡◌, ℕ, Bool, List, length, sum_by, Result, Ok, Err}
+use Rattle.std.specs.Prelude.{◌≡◌, ℕ, ◌≤◌, Bool, List, length, sum_by, Result, Ok, Err}
 use Rattle.cat_conditions.specs.Offences.{Exceeds, NoneOf, IsFirst}
 use Rattle.cat_conditions.specs.Pieces.{Piece}
 use Rattle.cat_conditions.specs.Local as spec
@@ -28,5 +28,5 @@ weight_of EventCode = event_size
 
 -- the sum of all, or the first piece with which it is past the limit
 abbrev pub Totals : (Piece → ℕ) → ℕ → List Piece → Result ℕ ℕ → Type 0
-Totals weight limit pieces (Ok total) = NoneOf (length pieces) (Exceeds weight limit pieces) × (total ≡ sum_by weight pieces)
+Totals weight limit pieces (Ok total) = NoneOf (length pieces) (Exceeds weight limit pieces) × (total ≡ sum_by weight pieces) × (total ≤ limit)
 Totals weight limit pieces (Err place) = IsFirst (length pieces) (Exceeds weight limit pieces) place

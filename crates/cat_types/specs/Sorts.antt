@@ -1,5 +1,5 @@
 -- The sorts of names, kept in a map.
-use Rattle.std.specs.Prelude.{◌≡◌, ℕ, Bool, true, false, bytes_eq, IsSome, if◌then◌else◌, List, length, Option, Some, None, Result, Ok, Err}
+use Rattle.std.specs.Prelude.{◌≡◌, ℕ, Bool, true, false, bytes_eq, IsSome, is_some, not, if◌then◌else◌, List, length, Option, Some, None, Result, Ok, Err}
 use Rattle.std.specs.BTreeMap.{BTreeMap, get_by}
 use Rattle.std.specs.Borrow.{Bor}
 use Rattle.std.specs.Cmp.Lexicographic.{slice_cmp}
@@ -35,3 +35,6 @@ abbrev pub Grows : Names → Names → Option (Name × Sort) → Bool → Type 0
 Grows before now None twice = (twice ≡ false) × ((x : Name) → sorts now x ≡ sorts before x)
 Grows before now (Some d) true = IsSome (sorts before d.0)
 Grows before now (Some d) false = (sorts before d.0 ≡ None) × ((x : Name) → sorts now x ≡ (if bytes_eq d.0 x then Some d.1 else sorts before x))
+
+abbrev pub is_unknown : Names → Name → Bool
+is_unknown names x = not (is_some (sorts names x))

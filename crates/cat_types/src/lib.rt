@@ -1,9 +1,11 @@
 //! Whether a source meets the conditions.
 #![tactic(auto)]
 
-pub mod pieces;
-pub mod rules;
-pub mod sizes;
-pub mod types;
-pub mod names;
-pub mod counts;
+mod pieces;
+mod rules;
+mod sizes;
+mod types;
+mod names;
+mod uses;
+mod code;
+mod counts;
