@@ -1,5 +1,5 @@
 -- How added pieces come together.
-use Rattle.std.proofs.Common.{◌≡◌, ℕ, ◌+◌, ◌≤◌, ◌<◌, max, suc, Bool, add-one, get_or, List, [], ◌∷◌, ◌++◌, drop, length, map, refl, ap, sym, ◌∙◌, append_assoc}
+use Rattle.std.proofs.Common.{◌≡◌, ℕ, ◌+◌, ◌≤◌, ◌<◌, max, suc, ◌&&◌, Bool, add-one, get_or, List, [], ◌∷◌, ◌++◌, drop, length, map, refl, ap, sym, ◌∙◌, append_assoc}
 use Rattle.std.proofs.lemmas.List.{map-append, append-nil}
 use Rattle.std.proofs.Math.ListN.{drop_of_length-le}
 use Rattle.std.proofs.Math.Seq.{drop-cons}
@@ -7,6 +7,9 @@ use Rattle.cn_base.specs.declared.tree.Further.{Further, out-Further}
 use Rattle.cat_conditions.specs.Plain.{term_of, further_of, furthers_of}
 use Rattle.cat_conditions.specs.Pieces.{term_pieces, further_terms}
 use Rattle.cat_conditions.specs.Counts.{size, further_size, need, further_need}
+use Rattle.cat_conditions.specs.declared.sort.ValueType.{ValueType}
+use Rattle.cat_conditions.specs.Names.{Sorts}
+use Rattle.cat_conditions.specs.Types.{is_same, operator_type, is_of, furthers_are_of}
 use Rattle.cat_conditions.proofs.PlainLaws.{further_out}
 use Rattle.cat_types.specs.declared.pieces.Piece.{Piece}
 use Rattle.cat_types.specs.Shown.{shown, all_shown, Adds}
@@ -59,3 +62,10 @@ pub need_next : (xs : List Further) (i : ℕ) (f : Further) → f ≡ get_or xs 
 need_next xs i f e h =
     ap (λ fs. further_need (furthers_of (map further_of fs))) (item_next xs i f e h)
     ∙ ap (λ p. further_need (furthers_of (p ∷ map further_of (drop (i + 1) xs)))) (further_out f)
+
+pub are_next : (sorts : Sorts) (t : ValueType) (xs : List Further) (i : ℕ) (f : Further) → f ≡ get_or xs i f → i < length xs
+    → furthers_are_of sorts t (furthers_of (map further_of (drop i xs)))
+      ≡ (is_same t (operator_type (out-Further f).operator) && is_of sorts t (term_of (out-Further f).operand) && furthers_are_of sorts t (furthers_of (map further_of (drop (i + 1) xs))))
+are_next sorts t xs i f e h =
+    ap (λ fs. furthers_are_of sorts t (furthers_of (map further_of fs))) (item_next xs i f e h)
+    ∙ ap (λ p. furthers_are_of sorts t (furthers_of (p ∷ map further_of (drop (i + 1) xs)))) (further_out f)

@@ -139,7 +139,8 @@ impl Names<'_> {
         ensures { result ≡ spec.furthers_are_of (sorts self.now) value_type (furthers_of (map further_of others.now)) }
     {
         for other in others {
-            if !(is_same(value_type, operator_type(other.operator)) && self.is_of(value_type, &other.operand)) {
+            let fits = is_same(value_type, operator_type(other.operator));
+            if !(fits && self.is_of(value_type, &other.operand)) {
                 return false;
             }
         }
