@@ -1,5 +1,5 @@
 -- How added pieces come together.
-use Rattle.std.proofs.Common.{◌≡◌, ℕ, ◌+◌, ◌≤◌, ◌<◌, max, suc, ◌&&◌, Bool, add-one, get_or, List, [], ◌∷◌, ◌++◌, drop, length, map, refl, ap, sym, ◌∙◌, append_assoc}
+use Rattle.std.proofs.Common.{◌≡◌, ℕ, ◌+◌, ◌≤◌, ◌<◌, max, suc, ◌&&◌, true, false, Some, slice_get, Bool, add-one, get_or, List, [], ◌∷◌, ◌++◌, drop, length, map, refl, ap, sym, ◌∙◌, append_assoc}
 use Rattle.std.proofs.lemmas.List.{map-append, append-nil}
 use Rattle.std.proofs.Math.ListN.{drop_of_length-le}
 use Rattle.std.proofs.Math.Seq.{drop-cons}
@@ -9,7 +9,7 @@ use Rattle.cat_conditions.specs.Pieces.{term_pieces, further_terms}
 use Rattle.cat_conditions.specs.Counts.{size, further_size, need, further_need}
 use Rattle.cat_conditions.specs.declared.sort.ValueType.{ValueType}
 use Rattle.cat_conditions.specs.Names.{Sorts}
-use Rattle.cat_conditions.specs.Types.{is_same, operator_type, is_of, furthers_are_of}
+use Rattle.cat_conditions.specs.Types.{chain_type, is_same, operator_type, is_of, furthers_are_of}
 use Rattle.cat_conditions.proofs.PlainLaws.{further_out}
 use Rattle.cat_types.specs.declared.pieces.Piece.{Piece}
 use Rattle.cat_types.specs.Shown.{shown, all_shown, Adds}
@@ -69,3 +69,17 @@ pub are_next : (sorts : Sorts) (t : ValueType) (xs : List Further) (i : ℕ) (f 
 are_next sorts t xs i f e h =
     ap (λ fs. furthers_are_of sorts t (furthers_of (map further_of fs))) (item_next xs i f e h)
     ∙ ap (λ p. furthers_are_of sorts t (furthers_of (p ∷ map further_of (drop (i + 1) xs)))) (further_out f)
+
+pub chain_first : (xs : List Further) (f : Further) → Some f ≡ slice_get xs 0 → chain_type (furthers_of (map further_of xs)) ≡ Some (operator_type (out-Further f).operator)
+chain_first [] f e = absurd (cc)
+chain_first (x ∷ xs) f e =
+    let same : x ≡ f = cc in
+    ap (λ p. chain_type (furthers_of (p ∷ map further_of xs))) (further_out x) ∙ ap (λ y. Some (operator_type (out-Further y).operator)) same
+
+pub and_true : (a b : Bool) → a ≡ true → (a && b) ≡ b
+and_true true b e = refl
+and_true false b e = absurd (cc)
+
+pub and_false : (a b : Bool) → a ≡ false → (a && b) ≡ false
+and_false false b e = refl
+and_false true b e = absurd (cc)

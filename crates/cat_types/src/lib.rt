@@ -9,3 +9,4 @@ mod names;
 mod uses;
 mod code;
 mod counts;
+mod degrade;

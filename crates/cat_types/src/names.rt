@@ -5,6 +5,7 @@ ghost use Rattle.std.specs.BTreeMap.{get_by};
 ghost use Rattle.std.specs.Cmp.Lexicographic.{slice_cmp};
 ghost use Rattle.std.specs.Ordering.{nat_cmp};
 ghost use Rattle.cat_conditions.specs.Names as spec;
+ghost use Rattle.cat_conditions.specs.Types.{has_wrong_type};
 ghost use Rattle.cat_conditions.specs.Conditions.{DeclaresTwice};
 ghost use Rattle.cat_conditions.specs.Offences.{At, Finds, IsFirst, NoneOf};
 ghost use Rattle.cat_conditions.specs.Plain.{action_of, term_of};
@@ -82,4 +83,32 @@ pub fn declared<'a>(
         }
     }
     Ok(Ok(names))
+}
+
+impl Names<'_> {
+    /// The place of the first piece in which a name stands that is declared nowhere.
+    pub fn first_unknown(&self, pieces: &[Piece<'_>]) -> Option<u32>
+        requires { length pieces.now < 2 ^ 32 }
+        ensures { Finds (length pieces.now) (At (spec.has_unknown_name (sorts self.now)) (all_shown pieces.now)) result }
+    {
+        for (place, piece) in pieces.iter().enumerate() {
+            if self.piece_lacks(piece) {
+                return Some(place as u32);
+            }
+        }
+        None
+    }
+
+    /// The place of the first piece with a name of a wrong sort or a value of a wrong type.
+    pub fn first_wrong_type(&self, pieces: &[Piece<'_>]) -> Option<u32>
+        requires { length pieces.now < 2 ^ 32 }
+        ensures { Finds (length pieces.now) (At (has_wrong_type (sorts self.now)) (all_shown pieces.now)) result }
+    {
+        for (place, piece) in pieces.iter().enumerate() {
+            if self.has_wrong_type(piece) {
+                return Some(place as u32);
+            }
+        }
+        None
+    }
 }

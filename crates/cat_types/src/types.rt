@@ -1,6 +1,7 @@
 //! Sorts of names and types of values.
 
-ghost use Rattle.std.specs.Prelude.{◌≡◌, not, map};
+ghost use Rattle.std.specs.Prelude.{◌≡◌, ◌&&◌, not, map};
+ghost use Rattle.cn_base.specs.declared.tree.Further.{out-Further};
 ghost use Rattle.std.specs.List.{list_any};
 ghost use Rattle.cat_conditions.specs.Types as spec;
 ghost use Rattle.cat_conditions.specs.Plain.{action_of, term_of, further_of, furthers_of};
@@ -135,12 +136,18 @@ impl Names<'_> {
         agrees(Some(value_type), self.type_of(expr))
     }
 
+    /// Whether the operator and its operand are of the chain's type.
+    fn further_is_of(&self, value_type: ValueType, other: &Further) -> bool
+        ensures { result ≡ (spec.is_same value_type (spec.operator_type (out-Further other.now).operator) && spec.is_of (sorts self.now) value_type (term_of (out-Further other.now).operand)) }
+    {
+        is_same(value_type, operator_type(other.operator)) && self.is_of(value_type, &other.operand)
+    }
+
     fn furthers_are_of(&self, value_type: ValueType, others: &[Further]) -> bool
         ensures { result ≡ spec.furthers_are_of (sorts self.now) value_type (furthers_of (map further_of others.now)) }
     {
         for other in others {
-            let fits = is_same(value_type, operator_type(other.operator));
-            if !(fits && self.is_of(value_type, &other.operand)) {
+            if !self.further_is_of(value_type, other) {
                 return false;
             }
         }
