@@ -76,13 +76,21 @@ fn versions(pieces: &[Piece<'_>], name: &Text) -> usize
     0
 }
 
+/// Whether the orders up to now mention an event as often as it has versions.
+fn is_too_often(pieces: &[Piece<'_>], so_far: &[Piece<'_>], name: &Text) -> bool
+    requires { length so_far.now < 2 ^ 32 }
+    ensures { result ≡ nat_le (spec.versions_of (all_shown pieces.now) name.now) (count_by (λ y. bytes_eq name.now y) (flat_map spec.mentioned (all_shown so_far.now))) }
+{
+    versions(pieces, name) as u128 <= mentions(so_far, name)
+}
+
 /// Whether the orders up to now mention one of these events as often as it has versions.
 fn has_too_many(pieces: &[Piece<'_>], so_far: &[Piece<'_>], list: &[Text]) -> bool
     requires { length so_far.now < 2 ^ 32 }
     ensures { result ≡ list_any (λ x. nat_le (spec.versions_of (all_shown pieces.now) x) (count_by (λ y. bytes_eq x y) (flat_map spec.mentioned (all_shown so_far.now)))) list.now }
 {
     for name in list {
-        if versions(pieces, name) as u128 <= mentions(so_far, name) {
+        if is_too_often(pieces, so_far, name) {
             return true;
         }
     }

@@ -7,6 +7,9 @@ mod sizes;
 mod types;
 mod names;
 mod uses;
+mod checks;
 mod code;
 mod counts;
 mod degrade;
+
+pub use checks::verdict;
