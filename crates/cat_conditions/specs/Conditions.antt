@@ -1,5 +1,5 @@
 -- The sixteen conditions, each as the pieces that offend against it.
-use Rattle.std.specs.Prelude.{◌≡◌, ℕ, ◌+◌, ◌<◌, ◌≤◌, ◌⊎◌, List, [], ◌∷◌, length, take, Option, Some, None, Result, Ok, Err, sum_by, flat_map, ⊤}
+use Rattle.std.specs.Prelude.{◌≡◌, ℕ, ◌+◌, ◌<◌, ◌≤◌, ◌⊎◌, List, [], ◌∷◌, length, take, Option, Some, None, Result, MatchResult, sum_by, flat_map, ⊤}
 use Rattle.cn_base.specs.declared.tree.Tree.{Tree}
 use Rattle.cat_conditions.specs.declared.fault.TypeFault.{TypeFault}
 use Rattle.cat_conditions.specs.declared.fault.TypeFault.TheVariants as fault
@@ -104,5 +104,4 @@ IsChecked tree = AllHold all_conditions (pieces tree)
 
 -- the tree is checked, or this is the lowest condition that fails, with its first piece that offends
 abbrev pub IsVerdict : {T : Type 0} → Tree → Result T TypeFault → Type 0
-IsVerdict tree (Ok _) = IsChecked tree
-IsVerdict tree (Err f) = IsFault (pieces tree) f
+IsVerdict tree result = MatchResult result (λ _. IsChecked tree) (λ f. IsFault (pieces tree) f)

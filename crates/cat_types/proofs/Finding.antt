@@ -1,5 +1,5 @@
 -- The first place that offends, place after place.
-use Rattle.std.proofs.Common.{◌≡◌, ℕ, ◌+◌, ◌<◌, Bool, true, false, List, length, get_or, take, refl, ap, sym, ◌∙◌}
+use Rattle.std.proofs.Common.{◌≡◌, ℕ, ◌+◌, ◌<◌, Bool, true, false, List, length, get_or, take, zero, suc, [], ◌∷◌, refl, ap, sym, ◌∙◌}
 use borrow.Author.Count.{below_more}
 use Rattle.std.specs.Prelude.{option_map, unwrap_or, slice_get, sum_by}
 use Rattle.std.proofs.lemmas.Option.{slice_get_read, slice_get-map}
@@ -27,3 +27,8 @@ pub sum_at : (weight : spec.Piece → ℕ) (xs : List Piece) (k : ℕ) (x : Piec
 sum_at weight xs k x e h =
     let fits : k < length (all_shown xs) = simp length-map h in
     sum_by_more weight (all_shown xs) k (shown x) fits ∙ ap (λ y. sum_by weight (take k (all_shown xs)) + weight y) (get_or-map shown xs k x (shown x) h ∙ ap shown (sym e))
+
+pub take_shown : (xs : List Piece) (n : ℕ) → all_shown (take n xs) ≡ take n (all_shown xs)
+take_shown xs zero = refl
+take_shown [] (suc n) = refl
+take_shown (x ∷ xs) (suc n) = ap (λ ys. shown x ∷ ys) (take_shown xs n)

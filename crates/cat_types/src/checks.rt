@@ -1,13 +1,15 @@
 //! Whether a source meets all conditions.
 
 ghost use Rattle.std.specs.Prelude.{◌<◌, ◌^◌, length, take, MatchResult};
-ghost use Rattle.cat_conditions.specs.Conditions.{all_conditions, AllHold, IsFault, IsVerdict};
+ghost use Rattle.cat_conditions.specs.Conditions.{all_conditions, Offends, names_known, types_agree, AllHold, IsFault, IsVerdict};
+ghost use Rattle.cat_conditions.specs.Offences.{Finds};
+ghost use Rattle.cat_types.specs.Sorts.{AreOf};
 ghost use Rattle.cat_types.specs.Shown.{all_shown};
 
 use crate::code;
 use crate::counts::Count;
 use crate::degrade;
-use crate::names::declared;
+use crate::names::{Names, declared};
 use crate::pieces::{Piece, pieces};
 use crate::rules::Rule;
 use cat_conditions::TypeFault;
@@ -38,6 +40,22 @@ fn check_counts(pieces: &[Piece<'_>]) -> Result<(), TypeFault>
     Ok(())
 }
 
+fn unknown(names: &Names<'_>, pieces: &[Piece<'_>]) -> Option<u32>
+    requires fits { length pieces.now < 2 ^ 32 }
+    requires are { AreOf (all_shown pieces.now) names.now }
+    ensures { Finds (length pieces.now) (Offends names_known (all_shown pieces.now)) result }
+{
+    names.first_unknown(pieces)
+}
+
+fn wrong_type(names: &Names<'_>, pieces: &[Piece<'_>]) -> Option<u32>
+    requires fits { length pieces.now < 2 ^ 32 }
+    requires are { AreOf (all_shown pieces.now) names.now }
+    ensures { Finds (length pieces.now) (Offends types_agree (all_shown pieces.now)) result }
+{
+    names.first_wrong_type(pieces)
+}
+
 /// Names and types.
 fn check_names(alloc: Global, pieces: &[Piece<'_>]) -> Result<(), TypeFault>
     requires fits { length pieces.now < 2 ^ 32 }
@@ -49,10 +67,10 @@ fn check_names(alloc: Global, pieces: &[Piece<'_>]) -> Result<(), TypeFault>
         Ok(Err(place)) => return Err(TypeFault::Twice(place)),
         Err(NoMemory) => return Err(TypeFault::NoMemory),
     };
-    if let Some(place) = names.first_unknown(pieces) {
+    if let Some(place) = unknown(&names, pieces) {
         return Err(TypeFault::Unknown(place));
     }
-    if let Some(place) = names.first_wrong_type(pieces) {
+    if let Some(place) = wrong_type(&names, pieces) {
         return Err(TypeFault::WrongType(place));
     }
     Ok(())

@@ -1,11 +1,11 @@
 //! The degrade orders.
 
-ghost use Rattle.std.specs.Prelude.{◌≡◌, ◌<◌, ◌≤◌, ◌^◌, ◌*◌, length, bytes_eq, count_by, flat_map, nat_le};
+ghost use Rattle.std.specs.Prelude.{◌≡◌, ◌<◌, ◌≤◌, ◌^◌, ◌*◌, length, bytes_eq, count_by, flat_map};
 ghost use Rattle.std.specs.List.{list_any};
 ghost use Rattle.cat_conditions.specs.Counts as spec;
 ghost use Rattle.cat_conditions.specs.Conditions.{DegradesTooOften};
 ghost use Rattle.cat_conditions.specs.Offences.{Finds};
-ghost use Rattle.cat_types.specs.Mentions.{event_versions};
+ghost use Rattle.cat_types.specs.Mentions.{event_versions, is_over};
 ghost use Rattle.cat_types.specs.Shown.{shown, all_shown};
 
 use crate::pieces::Piece;
@@ -77,9 +77,10 @@ fn versions(pieces: &[Piece<'_>], name: &Text) -> usize
 }
 
 /// Whether the orders up to now mention an event as often as it has versions.
+#[tactic(auto, unfolding(crate::specs::Mentions::is_over))]
 fn is_too_often(pieces: &[Piece<'_>], so_far: &[Piece<'_>], name: &Text) -> bool
     requires { length so_far.now < 2 ^ 32 }
-    ensures { result ≡ nat_le (spec.versions_of (all_shown pieces.now) name.now) (count_by (λ y. bytes_eq name.now y) (flat_map spec.mentioned (all_shown so_far.now))) }
+    ensures { result ≡ is_over (all_shown pieces.now) (all_shown so_far.now) name.now }
 {
     versions(pieces, name) as u128 <= mentions(so_far, name)
 }
@@ -87,7 +88,7 @@ fn is_too_often(pieces: &[Piece<'_>], so_far: &[Piece<'_>], name: &Text) -> bool
 /// Whether the orders up to now mention one of these events as often as it has versions.
 fn has_too_many(pieces: &[Piece<'_>], so_far: &[Piece<'_>], list: &[Text]) -> bool
     requires { length so_far.now < 2 ^ 32 }
-    ensures { result ≡ list_any (λ x. nat_le (spec.versions_of (all_shown pieces.now) x) (count_by (λ y. bytes_eq x y) (flat_map spec.mentioned (all_shown so_far.now)))) list.now }
+    ensures { result ≡ list_any (is_over (all_shown pieces.now) (all_shown so_far.now)) list.now }
 {
     for name in list {
         if is_too_often(pieces, so_far, name) {
@@ -97,6 +98,7 @@ fn has_too_many(pieces: &[Piece<'_>], so_far: &[Piece<'_>], list: &[Text]) -> bo
     false
 }
 
+#[tactic(auto, unfolding(crate::specs::Mentions::is_over))]
 fn degrades_too_often(pieces: &[Piece<'_>], so_far: &[Piece<'_>], piece: &Piece<'_>) -> bool
     requires { length so_far.now < 2 ^ 32 }
     ensures { result ≡ spec.degrades_too_often (spec.versions_of (all_shown pieces.now)) (flat_map spec.mentioned (all_shown so_far.now)) (shown piece.now) }
