@@ -34,15 +34,15 @@ continues_first pieces a xs = record { same = refl }
 pub continues_on : {X : Type 0} {pieces : List X → List spec.Piece} {a b c : List Piece} {xs : List X} {i : ℕ} {ps : List spec.Piece}
     → Continues pieces a b xs i → Adds b c ps → pieces (drop i xs) ≡ ps ++ pieces (drop (i + 1) xs) → Continues pieces a c xs (i + 1)
 continues_on {X} {pieces} {a} {b} {c} {xs} {i} {ps} f g e = record {
-    same = ap (λ z. z ++ pieces (drop (i + 1) xs)) g.same ∙ append_assoc (all_shown b) ps (pieces (drop (i + 1) xs))
-      ∙ ap (λ z. all_shown b ++ z) (sym e) ∙ f.same
-  }
+  same = ap (λ z. z ++ pieces (drop (i + 1) xs)) g.same ∙ append_assoc (all_shown b) ps (pieces (drop (i + 1) xs))
+      ∙ ap (λ z. all_shown b ++ z) (sym e) ∙ f.same;
+}
 
 pub continues_last : {X : Type 0} {pieces : List X → List spec.Piece} {a b : List Piece} {xs : List X} {i : ℕ}
     → Continues pieces a b xs i → length xs ≤ i → pieces [] ≡ [] → Adds a b (pieces xs)
 continues_last {X} {pieces} {a} {b} {xs} {i} f h e = record {
-    same = sym (append-nil (all_shown b)) ∙ ap (λ z. all_shown b ++ z) (sym (ap pieces (drop_of_length-le xs h) ∙ e)) ∙ f.same
-  }
+  same = sym (append-nil (all_shown b)) ∙ ap (λ z. all_shown b ++ z) (sym (ap pieces (drop_of_length-le xs h) ∙ e)) ∙ f.same;
+}
 
 pub item_next : {X : Type 0} (xs : List X) (i : ℕ) (x : X) → x ≡ get_or xs i x → i < length xs → drop i xs ≡ x ∷ drop (i + 1) xs
 item_next xs i x e h = rw add-one (drop-cons xs i x h ∙ ap (λ y. y ∷ drop (suc i) xs) (sym e))
@@ -65,7 +65,7 @@ need_next xs i f e h =
 
 pub are_next : (sorts : Sorts) (t : ValueType) (xs : List Further) (i : ℕ) (f : Further) → f ≡ get_or xs i f → i < length xs
     → furthers_are_of sorts t (furthers_of (map further_of (drop i xs)))
-      ≡ (is_same t (operator_type (out-Further f).operator) && is_of sorts t (term_of (out-Further f).operand) && furthers_are_of sorts t (furthers_of (map further_of (drop (i + 1) xs))))
+    ≡ (is_same t (operator_type (out-Further f).operator) && is_of sorts t (term_of (out-Further f).operand) && furthers_are_of sorts t (furthers_of (map further_of (drop (i + 1) xs))))
 are_next sorts t xs i f e h =
     ap (λ fs. furthers_are_of sorts t (furthers_of (map further_of fs))) (item_next xs i f e h)
     ∙ ap (λ p. furthers_are_of sorts t (furthers_of (p ∷ map further_of (drop (i + 1) xs)))) (further_out f)

@@ -6,12 +6,11 @@ ghost use Rattle.cat_conditions.specs.Offences.{Finds};
 ghost use Rattle.cat_types.specs.Sorts.{AreOf};
 ghost use Rattle.cat_types.specs.Shown.{all_shown};
 
-use crate::code;
 use crate::counts::Count;
-use crate::degrade;
 use crate::names::{Names, declared};
 use crate::pieces::{Piece, pieces};
 use crate::rules::Rule;
+use crate::{code, degrade};
 use cat_conditions::TypeFault;
 use cn_base::NoMemory;
 use cn_base::tree::Tree;

@@ -1,15 +1,15 @@
 //! Whether a source meets the conditions.
 #![tactic(auto)]
 
-mod pieces;
-mod rules;
-mod sizes;
-mod types;
-mod names;
-mod uses;
 mod checks;
 mod code;
 mod counts;
 mod degrade;
+mod names;
+mod pieces;
+mod rules;
+mod sizes;
+mod types;
+mod uses;
 
 pub use checks::verdict;

@@ -14,9 +14,8 @@ ghost use Rattle.cat_types.specs.Sorts.{IsNamed, Grows, sorts, Declares};
 
 use crate::pieces::Piece;
 use cat_conditions::Sort;
-use cn_base::NoMemory;
-use cn_base::Text;
 use cn_base::tree::{Expr, Item, Stmt};
+use cn_base::{NoMemory, Text};
 use std::alloc::Global;
 use std::collections::BTreeMap;
 
@@ -67,10 +66,7 @@ fn declare<'a>(names: &mut Names<'a>, piece: &Piece<'a>) -> Result<bool, NoMemor
 }
 
 /// The declared names, or the place of the first one that is declared a second time.
-pub fn declared<'a>(
-    alloc: Global,
-    pieces: &[Piece<'a>],
-) -> Result<Result<Names<'a>, u32>, NoMemory>
+pub fn declared<'a>(alloc: Global, pieces: &[Piece<'a>]) -> Result<Result<Names<'a>, u32>, NoMemory>
     requires { length pieces.now < 2 ^ 32 }
     ensures { IfOk result (λ found. Declares (all_shown pieces.now) found) }
 {

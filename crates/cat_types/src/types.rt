@@ -38,7 +38,8 @@ fn operator_type(operator: Operator) -> ValueType
 {
     match operator {
         Operator::Or | Operator::And => ValueType::Bool,
-        Operator::Add | Operator::Sub | Operator::Mul | Operator::Div | Operator::Rem => ValueType::Int,
+        Operator::Add | Operator::Sub | Operator::Mul | Operator::Div | Operator::Rem =>
+            ValueType::Int,
     }
 }
 
@@ -158,7 +159,8 @@ impl Names<'_> {
         ensures { result ≡ spec.agrees_in_chain (sorts self.now) (term_of first.now) (furthers_of (map further_of others.now)) }
     {
         match chain_type(others) {
-            Some(value_type) => self.is_of(value_type, first) && self.furthers_are_of(value_type, others),
+            Some(value_type) => self.is_of(value_type, first)
+                && self.furthers_are_of(value_type, others),
             None => true,
         }
     }

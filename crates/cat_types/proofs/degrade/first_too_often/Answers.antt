@@ -12,8 +12,8 @@ loop-place-preserved c =
     let test = degrades_too_often (versions_of ps) (flat_map mentioned (take (c.loop-place.place + 1) ps)) in
     let same = at_place test c.args.pieces.now c.loop-place.place c.index-pieces-place.result c.index-pieces-place.is c.loop-place-test.true in
     let here : test (shown c.index-pieces-place.result) ≡ false =
-      ap (λ zs. degrades_too_often (versions_of ps) (flat_map mentioned zs) (shown c.index-pieces-place.result)) (sym (take_shown c.args.pieces.now (c.loop-place.place + 1)))
-      ∙ sym c.degrades_too_often.ensures ∙ c.if-degrades_too_often.false in
+    ap (λ zs. degrades_too_often (versions_of ps) (flat_map mentioned zs) (shown c.index-pieces-place.result)) (sym (take_shown c.args.pieces.now (c.loop-place.place + 1)))
+    ∙ sym c.degrades_too_often.ensures ∙ c.if-degrades_too_often.false in
     none_more (DegradesTooOften ps) c.loop-place.place c.loop-place.invariant (λ often. cc (same, here, often))
 
 pub returns-then-degrades_too_often : goal.returns-then-degrades_too_often
@@ -22,6 +22,6 @@ returns-then-degrades_too_often c =
     let test = degrades_too_often (versions_of ps) (flat_map mentioned (take (c.loop-place.place + 1) ps)) in
     let same = at_place test c.args.pieces.now c.loop-place.place c.index-pieces-place.result c.index-pieces-place.is c.loop-place-test.true in
     let here : test (shown c.index-pieces-place.result) ≡ true =
-      ap (λ zs. degrades_too_often (versions_of ps) (flat_map mentioned zs) (shown c.index-pieces-place.result)) (sym (take_shown c.args.pieces.now (c.loop-place.place + 1)))
-      ∙ sym c.degrades_too_often.ensures ∙ c.if-degrades_too_often.true in
+    ap (λ zs. degrades_too_often (versions_of ps) (flat_map mentioned zs) (shown c.index-pieces-place.result)) (sym (take_shown c.args.pieces.now (c.loop-place.place + 1)))
+    ∙ sym c.degrades_too_often.ensures ∙ c.if-degrades_too_often.true in
     record { within = c.loop-place-test.true; here = same ∙ here; none_before = c.loop-place.invariant }

@@ -16,8 +16,8 @@ loop-place-preserved c =
     let here : is_declared_before (declarations front) (declaration p) ≡ false = not_before (declarations front) (declaration p) c.loop-place.names c.declare.new.names c.loop-place.invariant.sorts grows in
     record {
       sorts = subst (λ xs. AreOf xs c.declare.new.names) (sym (take_piece c.args.pieces.now c.loop-place.place c.index-pieces-place.result c.index-pieces-place.is c.loop-place-test.true))
-        (are_more front p c.loop-place.names c.declare.new.names c.loop-place.invariant.sorts grows);
+          (are_more front p c.loop-place.names c.declare.new.names c.loop-place.invariant.sorts grows);
       none = none_more (DeclaresTwice ps) c.loop-place.place c.loop-place.invariant.none
-        (λ twice. let same = at_place (λ q. is_declared_before (declarations front) (declaration q)) c.args.pieces.now c.loop-place.place c.index-pieces-place.result c.index-pieces-place.is c.loop-place-test.true in
+          (λ twice. let same = at_place (λ q. is_declared_before (declarations front) (declaration q)) c.args.pieces.now c.loop-place.place c.index-pieces-place.result c.index-pieces-place.is c.loop-place-test.true in
           cc (same, twice, here));
     }

@@ -7,6 +7,6 @@ use Rattle.cat_types.proofs.names.declared.Given as goal
 
 abbrev pub invariant-loop-place : goal.invariant-loop-place
 invariant-loop-place l = record {
-    sorts : AreOf (take l.place (all_shown l.pieces)) l.names;
-    none : NoneOf l.place (DeclaresTwice (all_shown l.pieces));
-  }
+  sorts : AreOf (take l.place (all_shown l.pieces)) l.names;
+  none : NoneOf l.place (DeclaresTwice (all_shown l.pieces));
+}

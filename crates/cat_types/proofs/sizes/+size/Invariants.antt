@@ -7,6 +7,6 @@ use Rattle.cat_types.proofs.sizes.+size.Given as goal
 -- the sum so far and what is left is all
 abbrev pub invariant-block_size-loop-statement : goal.invariant-block_size-loop-statement
 invariant-block_size-loop-statement l = record {
-    same : capped (l.sum + block_size (block_of (drop l.statement-index l.block))) ≡ capped (block_size (block_of l.block));
-    small : l.sum ≤ 1000001;
-  }
+  same : capped (l.sum + block_size (block_of (drop l.statement-index l.block))) ≡ capped (block_size (block_of l.block));
+  small : l.sum ≤ 1000001;
+}

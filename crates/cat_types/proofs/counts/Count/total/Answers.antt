@@ -11,7 +11,7 @@ loop-place-preserved c =
     let sum = sum_at (weight_of c.args.self) c.args.pieces.now c.loop-place.place c.index-pieces-place.result c.index-pieces-place.is c.loop-place-test.true in
     record {
       none = none_more (Exceeds (weight_of c.args.self) c.args.limit (all_shown c.args.pieces.now)) c.loop-place.place c.loop-place.invariant.none
-        (λ more. absurd (omega (arith, more, sum, c.loop-place.invariant.total, c.weight-weight.ensures)));
+          (λ more. absurd (omega (arith, more, sum, c.loop-place.invariant.total, c.weight-weight.ensures)));
       total = omega (arith, sum, c.loop-place.invariant.total, c.weight-weight.ensures);
       within = omega arith;
     }
