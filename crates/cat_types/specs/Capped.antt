@@ -1,0 +1,5 @@
+-- Numbers past all limits are one.
+use Rattle.std.specs.Prelude.{ℕ, min}
+
+abbrev pub capped : ℕ → ℕ
+capped n = min n 1000001

@@ -1,0 +1,15 @@
+//! Whether a source meets the conditions.
+#![tactic(auto)]
+
+mod checks;
+mod code;
+mod counts;
+mod degrade;
+mod names;
+mod pieces;
+mod rules;
+mod sizes;
+mod types;
+mod uses;
+
+pub use checks::verdict;
