@@ -69,7 +69,10 @@ fn refuses_other_sources(rt: HostRuntime) -> Result<(), Fail> {
             "fault source Early\n",
         ),
         ("task t { out 1, -1; } start t;", "fault source Early\n"),
-        ("task t { out 256, 1; } start t;", "fault source BadNumber\n"),
+        (
+            "task t { out 256, 1; } start t;",
+            "fault source BadNumber\n",
+        ),
         ("task t { x = 1; } start t;", "fault source Unknown\n"),
         ("task t { } start u;", "fault source Unknown\n"),
         ("task t { }", "fault source Early\n"),

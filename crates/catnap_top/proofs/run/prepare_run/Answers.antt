@@ -4,7 +4,7 @@ use Rattle.cat_syntax.specs.Spells.{Spells, IsFault}
 use Rattle.catnap_top.specs.Small.{IsSmall}
 use Rattle.catnap_top.specs.Run.{RunCallsFor, runs, not_small, most_source}
 use Rattle.catnap_top.specs.Prepared.{prepared_answer, refused_run}
-use Rattle.catnap_top.proofs.Refusing.{token_refused, syntax_refused}
+use Rattle.catnap_top.proofs.Refusing.{token_refused, syntax_refused, type_refused}
 use Rattle.catnap_top.proofs.Running.{machine_idle}
 use Rattle.catnap_top.proofs.run.prepare_run.Goals as goal
 
@@ -23,6 +23,15 @@ returns-in-Err-parse c =
     (syntax_refused c.args.steps c.args.source.now c.in-Ok.found.items c.in-Err-parse.fault le c.in-Ok.ensures.tokens
     (subst (λ ts. IsFault (lexemes c.args.source.now ts) c.in-Err-parse.fault) c.as_slice-tokens.ensures.value c.in-Err-parse.ensures.fault))
 
+pub returns-in-Err-verdict : goal.returns-in-Err-verdict
+returns-in-Err-verdict c =
+    let le : length c.args.source.now ≤ most_source = omega arith in
+    subst (λ r. IfOk r (λ prepared. RunCallsFor c.args.steps c.args.source.now (prepared_answer prepared)))
+    (sym (c.refuse-in-Err-verdict.ensures ∙ ap refused_run c.kind_of_type_fault.ensures))
+    (type_refused c.args.steps c.args.source.now c.in-Ok.found.items c.in-Ok-parse.tree c.in-Err-verdict.fault le c.in-Ok.ensures.tokens
+    (subst (λ ts. Spells (lexemes c.args.source.now ts) c.in-Ok-parse.tree.items) c.as_slice-tokens.ensures.value c.in-Ok-parse.ensures.tree)
+    c.in-Err-verdict.ensures)
+
 pub returns-in-Ok-small : goal.returns-in-Ok-small
 returns-in-Ok-small c =
     let m = c.in-Ok-small.machine in
@@ -39,8 +48,9 @@ pub returns-in-Err-Early : goal.returns-in-Err-Early
 returns-in-Err-Early c =
     let le : length c.args.source.now ≤ most_source = omega arith in
     let none = c.small.ensures.none (search rules) in
-    not_small c.in-Ok.found.items c.in_default.field-0.items le c.in-Ok.ensures.tokens
-    (subst (λ ts. Spells (lexemes c.args.source.now ts) c.in_default.field-0.items) c.as_slice-tokens.ensures.value c.in_default.ensures.tree)
+    not_small c.in-Ok.found.items c.in-Ok-parse.tree le c.in-Ok.ensures.tokens
+    (subst (λ ts. Spells (lexemes c.args.source.now ts) c.in-Ok-parse.tree.items) c.as_slice-tokens.ensures.value c.in-Ok-parse.ensures.tree)
+    c.in_default.ensures
     (λ words posts body stands. none words posts body
     (subst (λ ts. IsSmall (lexemes c.args.source.now ts) words posts body)
     ((c.one_lexing.ensures c.args.source.now stands.tokens c.in-Ok.found.items None None stands.lexes c.in-Ok.ensures.tokens).0
