@@ -1,0 +1,5 @@
+pub mod Arrivals
+pub mod Fault
+pub mod Kept
+pub mod Next
+pub mod Rows

@@ -1,0 +1,14 @@
+//! When events come: periodic ones by their period, reactive ones as a table of arrivals tells them,
+//! of which those that come too soon after the last one are dropped.
+#![tactic(auto)]
+
+mod arrival;
+mod lists;
+mod names;
+mod row;
+mod spacing;
+mod table;
+
+pub use arrival::{Arrival, Dropped};
+pub use lists::Arrivals;
+pub use table::{ArrivalsFault, arrivals};
