@@ -38,8 +38,12 @@ answers bodies (suc count) state = follow (task_step_of bodies state) (answers b
 abbrev pub idle : List ℤ → List ℕ → TaskState
 idle words posts = record { store = record { words = words; posts = posts }; current = None }
 
+-- the line of an output
+abbrev pub out_text : ℕ → ℤ → List ℕ
+out_text channel value = line (codes "out " ∷ decimal channel ∷ codes " " ∷ signed_decimal value ∷ codes "\n" ∷ [])
+
 abbrev pub out_line : Stepped → List ℕ
-out_line (Out channel value) = line (codes "out " ∷ decimal channel ∷ codes " " ∷ signed_decimal value ∷ codes "\n" ∷ [])
+out_line (Out channel value) = out_text channel value
 out_line _ = []
 
 abbrev pub out_lines : List Stepped → List ℕ

@@ -2,6 +2,7 @@
 #![tactic(auto)]
 
 mod cursor;
+mod line;
 mod machine;
 mod reading;
 mod refusal;

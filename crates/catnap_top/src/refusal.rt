@@ -1,14 +1,15 @@
 //! Why a source is refused.
 
-ghost use Rattle.std.specs.Prelude.{◌≡◌};
+ghost use Rattle.std.specs.Prelude.{◌≡◌, ◌≤◌, length};
 ghost use Rattle.cn_base.specs.Causes.{HasCause};
 ghost use Rattle.cn_base.specs.Writing.{Writes};
 ghost use Rattle.catnap_top.specs.Refusals.{kind_name, refused, kind_of_token_fault, kind_of_syntax_fault, kind_of_type_fault};
 
+use crate::line::put_refusal;
 use cat_conditions::TypeFault;
 use cat_syntax::SyntaxFault;
 use cat_tokens::LexFault;
-use cn_base::{Piece, Sink, WriteFail, put_line};
+use cn_base::{Sink, WriteFail};
 
 /// The kinds for which a source is refused, in the order in which they are looked at.
 #[derive(Clone, Copy, Debug, PartialEq, Eq)]
@@ -42,7 +43,8 @@ pub enum SourceFault {
 
 impl SourceFault {
     fn name(self) -> &'static [u8]
-        ensures { result.now ≡ kind_name self }
+        ensures name { result.now ≡ kind_name self }
+        ensures short { length result.now ≤ 15 }
     {
         match self {
             SourceFault::TooLong => b"TooLong".as_slice(),
@@ -77,14 +79,7 @@ impl SourceFault {
         ensures cause { HasCause (K.faults sink.old) (K.faults sink.new) result }
     {
         let name = self.name();
-        put_line(
-            sink,
-            &[
-                Piece::Text(b"fault source "),
-                Piece::Text(name),
-                Piece::Text(b"\n"),
-            ],
-        )
+        put_refusal(sink, name)
     }
 }
 

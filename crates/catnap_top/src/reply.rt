@@ -2,13 +2,13 @@ ghost use Rattle.std.specs.Prelude.{◌≡◌, IfOk, length, map};
 ghost use Rattle.cn_base.specs.Causes.{HasCause};
 ghost use Rattle.cn_base.specs.Writing.{Writes};
 ghost use Rattle.catnap_top.specs.Words.{file_count};
-ghost use Rattle.catnap_top.specs.Answer.{read_fault};
 ghost use Rattle.catnap_top.specs.Reply.{CallsFor, reply_answer};
 
 use crate::Status;
+use crate::line::put_read_fault;
 use crate::run::{Prepared, prepare_run};
 use crate::words::Form;
-use cn_base::{NoMemory, Piece, Sink, WriteFail, put, put_line};
+use cn_base::{NoMemory, Sink, WriteFail, put};
 use std::alloc::Global;
 
 /// What is to be answered. All memory for it has been taken.
@@ -37,7 +37,7 @@ impl Reply {
     {
         match self {
             Reply::Usage => put(sink, b"fault usage\n"),
-            Reply::ReadFault(place) => write_read_fault(sink, place),
+            Reply::ReadFault(place) => put_read_fault(sink, place),
             Reply::Run(prepared) => prepared.write(sink),
         }
     }
@@ -54,18 +54,4 @@ pub fn reply_to(alloc: Global, form: Form, files: &[Vec<u8>]) -> Result<Reply, N
             Ok(Reply::Run(prepared))
         }
     }
-}
-
-fn write_read_fault<K: Sink>(sink: &mut K, place: u32) -> Result<(), WriteFail>
-    ensures text { Writes (K.written sink.old) (K.written sink.new) (read_fault place).text result }
-    ensures cause { HasCause (K.faults sink.old) (K.faults sink.new) result }
-{
-    put_line(
-        sink,
-        &[
-            Piece::Text(b"fault read "),
-            Piece::Number(i128::from(place)),
-            Piece::Text(b"\n"),
-        ],
-    )
 }

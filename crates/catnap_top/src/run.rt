@@ -3,10 +3,11 @@
 ghost use Rattle.std.specs.Prelude.{◌≡◌, ◌≤◌, IfOk, length};
 ghost use Rattle.cn_base.specs.Causes.{HasCause};
 ghost use Rattle.cn_base.specs.Writing.{Writes};
-ghost use Rattle.catnap_top.specs.Run.{RunCallsFor, out_line, steps_line};
+ghost use Rattle.catnap_top.specs.Run.{RunCallsFor, out_line};
 ghost use Rattle.catnap_top.specs.Prepared.{prepared_answer, machine_answer, refused_run};
 
 use crate::Status;
+use crate::line::{put_out, put_steps};
 use crate::machine::Machine;
 use crate::refusal::{SourceFault, kind_of_syntax_fault, kind_of_token_fault, kind_of_type_fault};
 use crate::small::small;
@@ -15,7 +16,7 @@ use cat_program::Stepped;
 use cat_syntax::parse;
 use cat_tokens::{one_lexing, tokens};
 use cat_types::verdict;
-use cn_base::{NoMemory, Piece, Sink, WriteFail, put_line};
+use cn_base::{NoMemory, Sink, WriteFail};
 use std::alloc::Global;
 
 /// The greatest source, in bytes.
@@ -33,32 +34,9 @@ fn put_step<K: Sink>(sink: &mut K, stepped: Stepped) -> Result<(), WriteFail>
     ensures cause { HasCause (K.faults sink.old) (K.faults sink.new) result }
 {
     match stepped {
-        Stepped::Out { channel, value } => put_line(
-            sink,
-            &[
-                Piece::Text(b"out "),
-                Piece::Number(i128::from(channel)),
-                Piece::Text(b" "),
-                Piece::Number(i128::from(value)),
-                Piece::Text(b"\n"),
-            ],
-        ),
+        Stepped::Out { channel, value } => put_out(sink, channel, value),
         _ => Ok(()),
     }
-}
-
-fn put_steps<K: Sink>(sink: &mut K, count: u32) -> Result<(), WriteFail>
-    ensures text { Writes (K.written sink.old) (K.written sink.new) (steps_line count) result }
-    ensures cause { HasCause (K.faults sink.old) (K.faults sink.new) result }
-{
-    put_line(
-        sink,
-        &[
-            Piece::Text(b"steps "),
-            Piece::Number(i128::from(count)),
-            Piece::Text(b"\n"),
-        ],
-    )
 }
 
 /// Steps, and writes what is put out as it comes.
