@@ -1,5 +1,5 @@
 -- The sixteen conditions, each as the pieces that offend against it.
-use Rattle.std.specs.Prelude.{◌≡◌, ℕ, ◌+◌, ◌<◌, ◌≤◌, ◌⊎◌, List, [], ◌∷◌, length, take, Option, Some, None, Result, MatchResult, sum_by, flat_map, ⊤}
+use Rattle.std.specs.Prelude.{ℕ, ◌+◌, ◌<◌, ◌≤◌, ◌⊎◌, List, [], ◌∷◌, length, take, Result, MatchResult, sum_by, flat_map, ⊤}
 use Rattle.cn_base.specs.declared.tree.Tree.{Tree}
 use Rattle.cat_conditions.specs.declared.fault.TypeFault.{TypeFault}
 use Rattle.cat_conditions.specs.declared.fault.TypeFault.TheVariants as fault

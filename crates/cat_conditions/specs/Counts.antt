@@ -1,12 +1,12 @@
 -- What is counted over all pieces.
-use Rattle.std.specs.Prelude.{ℕ, ◌+◌, ◌*◌, ◌-◌, max, Bool, true, false, nat_le, nat_lt, bytes_eq, List, [], ◌∷◌, length, map, take, Option, Some, None, flat_map, filter_map, count_by, unwrap_or}
+use Rattle.std.specs.Prelude.{ℕ, ◌+◌, ◌*◌, max, Bool, false, nat_le, nat_lt, bytes_eq, List, [], ◌∷◌, length, Option, Some, None, filter_map, count_by, unwrap_or}
 use Rattle.std.specs.List.{list_any}
 use Rattle.std.specs.Map.{lookup}
 use Rattle.cn_base.specs.declared.tree.Item.{Item}
 use Rattle.cn_base.specs.declared.tree.Item.TheVariants as item
 use Rattle.cn_base.specs.declared.tree.Stmt.{Stmt}
-use Rattle.cat_conditions.specs.Plain.{Term, number, truth, payload, variable, element, signed, chain, compare, Furthers, no_further, further, Action, set, set_at, out, post, choose, loop, turns, Actions, no_action, action, Else, no_else, otherwise, block_of}
-use Rattle.cat_conditions.specs.Pieces.{Piece, an_item, a_statement, an_expression}
+use Rattle.cat_conditions.specs.Plain.{Term, element, signed, chain, compare, Furthers, no_further, further, Action, set, set_at, out, post, choose, loop, turns, Actions, no_action, action, Else, no_else, otherwise, block_of}
+use Rattle.cat_conditions.specs.Pieces.{Piece, an_item, a_statement}
 use Rattle.cat_conditions.specs.Names.{Name}
 
 -- an int or a bool has one word, an array its length

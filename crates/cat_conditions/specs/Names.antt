@@ -1,5 +1,5 @@
 -- What names are declared as, and which pieces use them.
-use Rattle.std.specs.Prelude.{ℕ, ◌+◌, Bool, true, false, not, ◌||◌, is_some, bytes_eq, List, [], ◌∷◌, take, Option, Some, None, filter_map, flat_map, map}
+use Rattle.std.specs.Prelude.{ℕ, Bool, false, not, is_some, bytes_eq, List, [], ◌∷◌, Option, Some, None, filter_map}
 use Rattle.std.specs.List.{list_any}
 use Rattle.std.specs.Map.{lookup}
 use Rattle.cn_base.specs.declared.tree.Item.{Item}

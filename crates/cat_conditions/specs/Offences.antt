@@ -1,5 +1,5 @@
 -- Which pieces offend, and the first of them.
-use Rattle.std.specs.Prelude.{◌≡◌, ℕ, ◌+◌, ◌<◌, Bool, true, false, List, length, take, Option, Some, None, slice_get, sum_by, option_map, unwrap_or}
+use Rattle.std.specs.Prelude.{◌≡◌, ℕ, ◌+◌, ◌<◌, Bool, true, false, List, take, Option, Some, None, slice_get, sum_by, option_map, unwrap_or}
 
 -- the piece at this place meets the test
 abbrev pub At : {A : Type 0} → (A → Bool) → List A → ℕ → Type 0

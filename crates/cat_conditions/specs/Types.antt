@@ -1,5 +1,5 @@
 -- Sorts of names and types of values. A name or element of a wrong sort agrees with every type.
-use Rattle.std.specs.Prelude.{◌≡◌, ℕ, Bool, true, false, not, ◌||◌, ◌&&◌, List, [], ◌∷◌, Option, Some, None}
+use Rattle.std.specs.Prelude.{Bool, true, false, not, ◌&&◌, Option, Some, None}
 use Rattle.std.specs.List.{list_any}
 use Rattle.cn_base.specs.declared.tree.Item.{Item}
 use Rattle.cn_base.specs.declared.tree.Item.TheVariants as item
@@ -15,7 +15,7 @@ use Rattle.cat_conditions.specs.declared.sort.ValueType.{ValueType}
 use Rattle.cat_conditions.specs.declared.sort.ValueType.TheVariants as type
 use Rattle.cat_conditions.specs.Plain.{Term, number, truth, payload, variable, element, signed, chain, compare, Furthers, no_further, further, Action, set, set_at, out, post, choose, loop}
 use Rattle.cat_conditions.specs.Pieces.{Piece, an_item, a_statement, an_expression}
-use Rattle.cat_conditions.specs.Names.{Name, Sorts}
+use Rattle.cat_conditions.specs.Names.{Sorts}
 
 -- the type of a plain variable
 abbrev pub plain_type : Option Sort → Option ValueType

@@ -1,5 +1,5 @@
 -- The first place that offends, place after place.
-use Rattle.std.proofs.Common.{◌≡◌, ℕ, ◌+◌, ◌<◌, Bool, true, false, List, length, get_or, take, zero, suc, [], ◌∷◌, refl, ap, sym, ◌∙◌}
+use Rattle.std.proofs.Common.{◌≡◌, ℕ, ◌+◌, ◌<◌, Bool, false, List, length, get_or, take, zero, suc, [], ◌∷◌, refl, ap, sym, ◌∙◌}
 use borrow.Author.Count.{below_more}
 use Rattle.std.specs.Prelude.{option_map, unwrap_or, slice_get, sum_by}
 use Rattle.std.proofs.lemmas.Option.{slice_get_read, slice_get-map}

@@ -9,6 +9,8 @@ mod names;
 mod pieces;
 mod rules;
 mod sizes;
+#[cfg(test)]
+mod tests;
 mod types;
 mod uses;
 

@@ -1,4 +1,4 @@
-use Rattle.std.proofs.Common.{ap, sym, ◌+◌, ◌∙◌, drop, arith}
+use Rattle.std.proofs.Common.{ap, arith}
 use Rattle.cat_conditions.specs.Plain.{block_of}
 use Rattle.cat_conditions.specs.Counts.{versions_size, block_size}
 use Rattle.cat_types.proofs.Adding.{item_next}

@@ -1,4 +1,4 @@
-use Rattle.std.proofs.Common.{◌≡◌, ◌+◌, take, sym, subst, refl, ap, false, Bool}
+use Rattle.std.proofs.Common.{◌≡◌, take, sym, subst, false, Bool}
 use Rattle.cat_conditions.specs.Names.{declaration, declarations, is_declared_before}
 use Rattle.cat_conditions.specs.Conditions.{DeclaresTwice}
 use Rattle.cat_types.specs.Shown.{shown, all_shown}

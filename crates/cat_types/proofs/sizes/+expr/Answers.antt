@@ -1,4 +1,4 @@
-use Rattle.std.proofs.Common.{◌+◌, drop, arith}
+use Rattle.std.proofs.Common.{arith}
 use Rattle.cat_types.proofs.Adding.{size_next}
 use Rattle.cat_types.proofs.sizes.+expr.Goals as goal
 

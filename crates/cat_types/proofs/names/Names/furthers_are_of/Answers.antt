@@ -1,6 +1,4 @@
-use Rattle.std.proofs.Common.{arith, ◌&&◌, ◌+◌, ap, sym, ◌∙◌, map, drop}
-use Rattle.cat_conditions.specs.Plain.{further_of, furthers_of}
-use Rattle.cat_conditions.specs.Types.{furthers_are_of}
+use Rattle.std.proofs.Common.{arith}
 use Rattle.cat_types.specs.Sorts.{sorts}
 use Rattle.cat_types.proofs.Adding.{are_next, and_true, and_false}
 use Rattle.cat_types.proofs.names.Names.furthers_are_of.Goals as goal
