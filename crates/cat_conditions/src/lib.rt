@@ -1,0 +1,5 @@
+//! The conditions.
+#![tactic(auto)]
+
+#[derive(Clone, Copy, Debug, PartialEq, Eq)]
+pub enum Sort { Int, Bool, Array, Task, Event }
