@@ -1,5 +1,5 @@
 -- Each kind of expression and statement as plain data.
-use Rattle.std.proofs.Common.{◌≡◌, ℕ, Bool, List, [], ◌∷◌, Some, None, map, ap, sym, ◌∙◌}
+use Rattle.std.proofs.Common.{◌≡◌, ℕ, Bool, List, [], ◌∷◌, Option, Some, None, map, ap, sym, ◌∙◌}
 use Rattle.cn_base.specs.declared.tree.Expr.{Expr, fold-Expr, fold-roll-Expr}
 use Rattle.cn_base.specs.declared.tree.Expr.TheVariants as expr
 use Rattle.cn_base.specs.declared.tree.Expr.TheOpen.{Expr-F}
@@ -10,72 +10,69 @@ use Rattle.cn_base.specs.declared.tree.Stmt.TheOpen.{Stmt-F}
 use Rattle.cn_base.specs.declared.tree.Operator.{Operator}
 use Rattle.cn_base.specs.declared.tree.Comparison.{Comparison}
 use Rattle.cn_base.specs.declared.tree.Sign.{Sign}
-use Rattle.cat_conditions.specs.Plain.{Term, number, truth, payload, variable, element, signed, chain, compare, Furthers, no_further, further, furthers_of, term_layer, further_layer, term_of, further_of, Action, set, set_at, out, post, when, choose, loop, turns, Actions, action_layer, action_of, block_of}
+use Rattle.cat_conditions.specs.Plain.{Term, number, truth, payload, variable, element, signed, chain, compare, Furthers, no_further, further, furthers_of, term_layer, further_layer, term_of, further_of, Action, set, set_at, out, post, choose, loop, turns, Actions, action_layer, action_of, block_of, else_block}
 
-pub term-number : (n : ℕ) → term_of (expr.Number n) ≡ number n
+pub term_number : (n : ℕ) → term_of (expr.Number n) ≡ number n
 unfolding term_of
-term-number n = ap (fold-Expr Term (Operator × Term) term_layer further_layer) (sym (expr.rolls-Number n)) ∙ fold-roll-Expr Term (Operator × Term) term_layer further_layer (Expr-F.Number n)
+term_number n = ap (fold-Expr Term (Operator × Term) term_layer further_layer) (sym (expr.rolls-Number n)) ∙ fold-roll-Expr Term (Operator × Term) term_layer further_layer (Expr-F.Number n)
 
-pub term-truth : (b : Bool) → term_of (expr.Truth b) ≡ truth b
+pub term_truth : (b : Bool) → term_of (expr.Truth b) ≡ truth b
 unfolding term_of
-term-truth b = ap (fold-Expr Term (Operator × Term) term_layer further_layer) (sym (expr.rolls-Truth b)) ∙ fold-roll-Expr Term (Operator × Term) term_layer further_layer (Expr-F.Truth b)
+term_truth b = ap (fold-Expr Term (Operator × Term) term_layer further_layer) (sym (expr.rolls-Truth b)) ∙ fold-roll-Expr Term (Operator × Term) term_layer further_layer (Expr-F.Truth b)
 
-pub term-payload : term_of expr.Payload ≡ payload
+pub term_payload : term_of expr.Payload ≡ payload
 unfolding term_of
-term-payload = ap (fold-Expr Term (Operator × Term) term_layer further_layer) (sym expr.rolls-Payload) ∙ fold-roll-Expr Term (Operator × Term) term_layer further_layer Expr-F.Payload
+term_payload = ap (fold-Expr Term (Operator × Term) term_layer further_layer) (sym expr.rolls-Payload) ∙ fold-roll-Expr Term (Operator × Term) term_layer further_layer Expr-F.Payload
 
-pub term-name : (x : List ℕ) → term_of (expr.Name x) ≡ variable x
+pub term_name : (x : List ℕ) → term_of (expr.Name x) ≡ variable x
 unfolding term_of
-term-name x = ap (fold-Expr Term (Operator × Term) term_layer further_layer) (sym (expr.rolls-Name x)) ∙ fold-roll-Expr Term (Operator × Term) term_layer further_layer (Expr-F.Name x)
+term_name x = ap (fold-Expr Term (Operator × Term) term_layer further_layer) (sym (expr.rolls-Name x)) ∙ fold-roll-Expr Term (Operator × Term) term_layer further_layer (Expr-F.Name x)
 
-pub term-element : (x : List ℕ) (i : Expr) → term_of (expr.Element x i) ≡ element x (term_of i)
+pub term_element : (x : List ℕ) (i : Expr) → term_of (expr.Element x i) ≡ element x (term_of i)
 unfolding term_of
-term-element x i = ap (fold-Expr Term (Operator × Term) term_layer further_layer) (sym (expr.rolls-Element x i)) ∙ fold-roll-Expr Term (Operator × Term) term_layer further_layer (Expr-F.Element x i)
+term_element x i = ap (fold-Expr Term (Operator × Term) term_layer further_layer) (sym (expr.rolls-Element x i)) ∙ fold-roll-Expr Term (Operator × Term) term_layer further_layer (Expr-F.Element x i)
 
-pub term-signed : (s : Sign) (e : Expr) → term_of (expr.Signed s e) ≡ signed s (term_of e)
+pub term_signed : (s : Sign) (e : Expr) → term_of (expr.Signed s e) ≡ signed s (term_of e)
 unfolding term_of
-term-signed s e = ap (fold-Expr Term (Operator × Term) term_layer further_layer) (sym (expr.rolls-Signed s e)) ∙ fold-roll-Expr Term (Operator × Term) term_layer further_layer (Expr-F.Signed s e)
+term_signed s e = ap (fold-Expr Term (Operator × Term) term_layer further_layer) (sym (expr.rolls-Signed s e)) ∙ fold-roll-Expr Term (Operator × Term) term_layer further_layer (Expr-F.Signed s e)
 
-pub term-chain : (e : Expr) (fs : List Further) → term_of (expr.Chain e fs) ≡ chain (term_of e) (furthers_of (map further_of fs))
+pub term_chain : (e : Expr) (fs : List Further) → term_of (expr.Chain e fs) ≡ chain (term_of e) (furthers_of (map further_of fs))
 unfolding term_of further_of
-term-chain e fs = ap (fold-Expr Term (Operator × Term) term_layer further_layer) (sym (expr.rolls-Chain e fs)) ∙ fold-roll-Expr Term (Operator × Term) term_layer further_layer (Expr-F.Chain e fs)
+term_chain e fs = ap (fold-Expr Term (Operator × Term) term_layer further_layer) (sym (expr.rolls-Chain e fs)) ∙ fold-roll-Expr Term (Operator × Term) term_layer further_layer (Expr-F.Chain e fs)
 
-pub term-compare : (a : Expr) (c : Comparison) (b : Expr) → term_of (expr.Compare a c b) ≡ compare (term_of a) c (term_of b)
+pub term_compare : (a : Expr) (c : Comparison) (b : Expr) → term_of (expr.Compare a c b) ≡ compare (term_of a) c (term_of b)
 unfolding term_of
-term-compare a c b = ap (fold-Expr Term (Operator × Term) term_layer further_layer) (sym (expr.rolls-Compare a c b)) ∙ fold-roll-Expr Term (Operator × Term) term_layer further_layer (Expr-F.Compare a c b)
+term_compare a c b = ap (fold-Expr Term (Operator × Term) term_layer further_layer) (sym (expr.rolls-Compare a c b)) ∙ fold-roll-Expr Term (Operator × Term) term_layer further_layer (Expr-F.Compare a c b)
 
-pub further-out : (f : Further) → further_of f ≡ ((out-Further f).operator, term_of (out-Further f).operand)
+pub further_out : (f : Further) → further_of f ≡ ((out-Further f).operator, term_of (out-Further f).operand)
 unfolding term_of further_of
-further-out f = fold_out-Further Term (Operator × Term) term_layer further_layer f
+further_out f = fold_out-Further Term (Operator × Term) term_layer further_layer f
 
-pub action-set : (x : List ℕ) (e : Expr) → action_of (stmt.Set x e) ≡ set x (term_of e)
+pub action_set : (x : List ℕ) (e : Expr) → action_of (stmt.Set x e) ≡ set x (term_of e)
 unfolding action_of
-action-set x e = ap (fold-Stmt Action action_layer) (sym (stmt.rolls-Set x e)) ∙ fold-roll-Stmt Action action_layer (Stmt-F.Set x e)
+action_set x e = ap (fold-Stmt Action action_layer) (sym (stmt.rolls-Set x e)) ∙ fold-roll-Stmt Action action_layer (Stmt-F.Set x e)
 
-pub action-set_at : (x : List ℕ) (i e : Expr) → action_of (stmt.SetAt x i e) ≡ set_at x (term_of i) (term_of e)
+pub action_set_at : (x : List ℕ) (i e : Expr) → action_of (stmt.SetAt x i e) ≡ set_at x (term_of i) (term_of e)
 unfolding action_of
-action-set_at x i e = ap (fold-Stmt Action action_layer) (sym (stmt.rolls-SetAt x i e)) ∙ fold-roll-Stmt Action action_layer (Stmt-F.SetAt x i e)
+action_set_at x i e = ap (fold-Stmt Action action_layer) (sym (stmt.rolls-SetAt x i e)) ∙ fold-roll-Stmt Action action_layer (Stmt-F.SetAt x i e)
 
-pub action-out : (n : ℕ) (e : Expr) → action_of (stmt.Out n e) ≡ out n (term_of e)
+pub action_out : (n : ℕ) (e : Expr) → action_of (stmt.Out n e) ≡ out n (term_of e)
 unfolding action_of
-action-out n e = ap (fold-Stmt Action action_layer) (sym (stmt.rolls-Out n e)) ∙ fold-roll-Stmt Action action_layer (Stmt-F.Out n e)
+action_out n e = ap (fold-Stmt Action action_layer) (sym (stmt.rolls-Out n e)) ∙ fold-roll-Stmt Action action_layer (Stmt-F.Out n e)
 
-pub action-post : (x : List ℕ) → action_of (stmt.Post x) ≡ post x
+pub action_post : (x : List ℕ) → action_of (stmt.Post x) ≡ post x
 unfolding action_of
-action-post x = ap (fold-Stmt Action action_layer) (sym (stmt.rolls-Post x)) ∙ fold-roll-Stmt Action action_layer (Stmt-F.Post x)
+action_post x = ap (fold-Stmt Action action_layer) (sym (stmt.rolls-Post x)) ∙ fold-roll-Stmt Action action_layer (Stmt-F.Post x)
 
-pub action-when : (e : Expr) (xs : List Stmt) → action_of (stmt.If e xs None) ≡ when (term_of e) (block_of xs)
+pub action_if : (e : Expr) (xs : List Stmt) (ys : Option (List Stmt)) → action_of (stmt.If e xs ys) ≡ choose (term_of e) (block_of xs) (else_block ys)
 unfolding action_of
-action-when e xs = ap (fold-Stmt Action action_layer) (sym (stmt.rolls-If e xs None)) ∙ fold-roll-Stmt Action action_layer (Stmt-F.If e xs None)
+action_if e xs None = ap (fold-Stmt Action action_layer) (sym (stmt.rolls-If e xs None)) ∙ fold-roll-Stmt Action action_layer (Stmt-F.If e xs None)
+action_if e xs (Some ys) = ap (fold-Stmt Action action_layer) (sym (stmt.rolls-If e xs (Some ys))) ∙ fold-roll-Stmt Action action_layer (Stmt-F.If e xs (Some ys))
 
-pub action-choose : (e : Expr) (xs ys : List Stmt) → action_of (stmt.If e xs (Some ys)) ≡ choose (term_of e) (block_of xs) (block_of ys)
+pub action_loop : (e : Expr) (xs : List Stmt) → action_of (stmt.While e xs) ≡ loop (term_of e) (block_of xs)
 unfolding action_of
-action-choose e xs ys = ap (fold-Stmt Action action_layer) (sym (stmt.rolls-If e xs (Some ys))) ∙ fold-roll-Stmt Action action_layer (Stmt-F.If e xs (Some ys))
+action_loop e xs = ap (fold-Stmt Action action_layer) (sym (stmt.rolls-While e xs)) ∙ fold-roll-Stmt Action action_layer (Stmt-F.While e xs)
 
-pub action-loop : (e : Expr) (xs : List Stmt) → action_of (stmt.While e xs) ≡ loop (term_of e) (block_of xs)
+pub action_turns : (n : ℕ) (xs : List Stmt) → action_of (stmt.Repeat n xs) ≡ turns n (block_of xs)
 unfolding action_of
-action-loop e xs = ap (fold-Stmt Action action_layer) (sym (stmt.rolls-While e xs)) ∙ fold-roll-Stmt Action action_layer (Stmt-F.While e xs)
-
-pub action-turns : (n : ℕ) (xs : List Stmt) → action_of (stmt.Repeat n xs) ≡ turns n (block_of xs)
-unfolding action_of
-action-turns n xs = ap (fold-Stmt Action action_layer) (sym (stmt.rolls-Repeat n xs)) ∙ fold-roll-Stmt Action action_layer (Stmt-F.Repeat n xs)
+action_turns n xs = ap (fold-Stmt Action action_layer) (sym (stmt.rolls-Repeat n xs)) ∙ fold-roll-Stmt Action action_layer (Stmt-F.Repeat n xs)

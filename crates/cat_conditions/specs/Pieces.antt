@@ -5,7 +5,7 @@ use Rattle.cn_base.specs.declared.tree.Item.{Item}
 use Rattle.cn_base.specs.declared.tree.Item.TheVariants as item
 use Rattle.cn_base.specs.declared.tree.Stmt.{Stmt}
 use Rattle.cn_base.specs.declared.tree.Tree.{Tree}
-use Rattle.cat_conditions.specs.Plain.{Term, number, truth, payload, variable, element, signed, chain, compare, Furthers, no_further, further, Action, set, set_at, out, post, when, choose, loop, turns, Actions, no_action, action, block_of}
+use Rattle.cat_conditions.specs.Plain.{Term, number, truth, payload, variable, element, signed, chain, compare, Furthers, no_further, further, Action, set, set_at, out, post, choose, loop, turns, Actions, no_action, action, Else, no_else, otherwise, block_of}
 
 pub data Piece : Type 0 where
   an_item : Item → Piece
@@ -15,20 +15,21 @@ pub data Piece : Type 0 where
   an_expression : Bool → Term → Piece
 
 abbrev mutual
-  -- an expression and those in it
-  pub term_pieces : Bool → Term → List Piece
-  term_pieces event (number n) = an_expression event (number n) ∷ []
-  term_pieces event (truth b) = an_expression event (truth b) ∷ []
-  term_pieces event payload = an_expression event payload ∷ []
-  term_pieces event (variable x) = an_expression event (variable x) ∷ []
-  term_pieces event (element x index) = an_expression event (element x index) ∷ term_pieces event index
-  term_pieces event (signed sign operand) = an_expression event (signed sign operand) ∷ term_pieces event operand
-  term_pieces event (chain first others) = an_expression event (chain first others) ∷ (term_pieces event first ++ furthers_pieces event others)
-  term_pieces event (compare first comparison second) = an_expression event (compare first comparison second) ∷ (term_pieces event first ++ term_pieces event second)
+  -- what stands in an expression
+  pub inner_terms : Bool → Term → List Piece
+  inner_terms event (element x index) = an_expression event index ∷ inner_terms event index
+  inner_terms event (signed sign operand) = an_expression event operand ∷ inner_terms event operand
+  inner_terms event (chain first others) = an_expression event first ∷ (inner_terms event first ++ further_terms event others)
+  inner_terms event (compare first comparison second) = an_expression event first ∷ (inner_terms event first ++ an_expression event second ∷ inner_terms event second)
+  inner_terms event _ = []
 
-  pub furthers_pieces : Bool → Furthers → List Piece
-  furthers_pieces event no_further = []
-  furthers_pieces event (further operator operand others) = term_pieces event operand ++ furthers_pieces event others
+  pub further_terms : Bool → Furthers → List Piece
+  further_terms event no_further = []
+  further_terms event (further operator operand others) = an_expression event operand ∷ (inner_terms event operand ++ further_terms event others)
+
+-- an expression and what stands in it
+abbrev pub term_pieces : Bool → Term → List Piece
+term_pieces event term = an_expression event term ∷ inner_terms event term
 
 abbrev mutual
   -- what stands in a statement
@@ -37,8 +38,7 @@ abbrev mutual
   inner_pieces event room (set_at x index value) = term_pieces event index ++ term_pieces event value
   inner_pieces event room (out channel value) = term_pieces event value
   inner_pieces event room (post x) = []
-  inner_pieces event room (when test first) = term_pieces event test ++ block_pieces event room first
-  inner_pieces event room (choose test first second) = term_pieces event test ++ (block_pieces event room first ++ block_pieces event room second)
+  inner_pieces event room (choose test first second) = term_pieces event test ++ (block_pieces event room first ++ else_pieces event room second)
   inner_pieces event room (loop test body) = term_pieces event test ++ block_pieces event room body
   inner_pieces event room (turns count body) = block_pieces event (room - 1) body
 
@@ -46,6 +46,10 @@ abbrev mutual
   pub block_pieces : Bool → ℕ → Actions → List Piece
   block_pieces event room no_action = []
   block_pieces event room (action first others) = a_statement event room first ∷ (inner_pieces event room first ++ block_pieces event room others)
+
+  pub else_pieces : Bool → ℕ → Else → List Piece
+  else_pieces event room no_else = []
+  else_pieces event room (otherwise block) = block_pieces event room block
 
 -- how many operands a statement may need at once
 abbrev pub most_operands : ℕ

@@ -33,8 +33,7 @@ mutual
     set_at : List ℕ → Term → Term → Action
     out : ℕ → Term → Action
     post : List ℕ → Action
-    when : Term → Actions → Action
-    choose : Term → Actions → Actions → Action
+    choose : Term → Actions → Else → Action
     loop : Term → Actions → Action
     turns : ℕ → Actions → Action
 
@@ -42,6 +41,11 @@ mutual
   pub data Actions : Type 0 where
     no_action : Actions
     action : Action → Actions → Actions
+
+  -- the second block of an `if`, if it has one
+  pub data Else : Type 0 where
+    no_else : Else
+    otherwise : Actions → Else
 
 abbrev pub furthers_of : List (Operator × Term) → Furthers
 furthers_of [] = no_further
@@ -71,9 +75,9 @@ abbrev pub actions_of : List Action → Actions
 actions_of [] = no_action
 actions_of (a ∷ rest) = action a (actions_of rest)
 
-abbrev pub either_of : Term → Actions → Option (List Action) → Action
-either_of test first None = when test first
-either_of test first (Some second) = choose test first (actions_of second)
+abbrev pub else_of : Option (List Action) → Else
+else_of None = no_else
+else_of (Some second) = otherwise (actions_of second)
 
 -- with each inner statement already plain
 abbrev pub action_layer : Stmt-F Action → Action
@@ -81,7 +85,7 @@ action_layer (Stmt-F.Set x value) = set x (term_of value)
 action_layer (Stmt-F.SetAt x index value) = set_at x (term_of index) (term_of value)
 action_layer (Stmt-F.Out channel value) = out channel (term_of value)
 action_layer (Stmt-F.Post x) = post x
-action_layer (Stmt-F.If test first second) = either_of (term_of test) (actions_of first) second
+action_layer (Stmt-F.If test first second) = choose (term_of test) (actions_of first) (else_of second)
 action_layer (Stmt-F.While test body) = loop (term_of test) (actions_of body)
 action_layer (Stmt-F.Repeat count body) = turns count (actions_of body)
 
@@ -90,3 +94,7 @@ action_of = fold-Stmt Action action_layer
 
 abbrev pub block_of : List Stmt → Actions
 block_of xs = actions_of (map action_of xs)
+
+abbrev pub else_block : Option (List Stmt) → Else
+else_block None = no_else
+else_block (Some xs) = otherwise (block_of xs)

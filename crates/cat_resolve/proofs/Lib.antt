@@ -1,0 +1,4 @@
+pub mod Forms
+pub mod Terms
+pub mod Lists
+pub mod Giving

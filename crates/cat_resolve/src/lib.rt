@@ -1,0 +1,8 @@
+//! The program of a checked source: names become numbers, and blocks get theirs.
+#![tactic(auto)]
+
+mod blocks;
+mod expression;
+mod names;
+
+pub use names::{Meaning, Names};
