@@ -2,3 +2,4 @@ pub mod Forms
 pub mod Terms
 pub mod Lists
 pub mod Giving
+pub mod Statements

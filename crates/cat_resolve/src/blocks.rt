@@ -1,7 +1,7 @@
 //! Statements with their names resolved, and the blocks that they stand in.
 
 ghost use Rattle.std.specs.Prelude.{◌≡◌, ◌+◌, ◌<◌, ◌^◌, length, map, min, IfOk};
-ghost use Rattle.cat_conditions.specs.Plain.{action_of, block_of, else_block};
+ghost use Rattle.cat_conditions.specs.Plain.{action_of, block_of};
 ghost use Rattle.cat_resolve.specs.Form.{form, command};
 ghost use Rattle.cat_resolve.specs.Meanings.{meanings};
 ghost use Rattle.cat_resolve.specs.Blocks as spec;
@@ -11,7 +11,6 @@ use crate::expression::expression;
 use crate::names::{Meaning, Names};
 use cat_program::{Expr, Stmt};
 use cn_base::{List, tree};
-use sqlite_items::Items;
 use std::alloc::{AllocError, Global};
 
 fn set(names: &Names, name: &str, value: Expr) -> Stmt
@@ -67,7 +66,13 @@ fn repeat(count: u32, body: u32) -> Stmt
 
 /// A statement, whose blocks are put behind those that have ended.
 #[cycle(stmt)]
-fn statement(alloc: Global, names: &Names, blocks: &mut Vec<List<Stmt>>, source: &tree::Stmt) -> Result<Stmt, AllocError>
+#[tactic(auto, using(cat_conditions::proofs::PlainLaws::action_set, cat_conditions::proofs::PlainLaws::action_set_at, cat_conditions::proofs::PlainLaws::action_out, cat_conditions::proofs::PlainLaws::action_post, cat_conditions::proofs::PlainLaws::action_if, cat_conditions::proofs::PlainLaws::action_loop, cat_conditions::proofs::PlainLaws::action_turns))]
+fn statement(
+    alloc: Global,
+    names: &Names,
+    blocks: &mut Vec<List<Stmt>>,
+    source: &tree::Stmt,
+) -> Result<Stmt, AllocError>
     requires { Fits blocks.old.items (λ n. spec.blocks_in (meanings names.now) n (action_of source.now)) }
     ensures value { IfOk result (λ s. command s ≡ spec.command_of (meanings names.now) (length blocks.old.items) (action_of source.now)) }
     ensures ended { IfOk result (λ s. Ends blocks.old.items blocks.new.items (λ n. spec.blocks_in (meanings names.now) n (action_of source.now))) }
@@ -90,8 +95,19 @@ fn statement(alloc: Global, names: &Names, blocks: &mut Vec<List<Stmt>>, source:
         tree::Stmt::If(test, first, second) => {
             let test = expression(alloc, names, test)?;
             let yes = block(alloc, names, blocks, first.as_slice())?;
-            let no = else_of(alloc, names, blocks, second)?;
-            Ok(Stmt::If { test, yes, no })
+            let Some(second) = second else {
+                return Ok(Stmt::If {
+                    test,
+                    yes,
+                    no: None,
+                });
+            };
+            let no = block(alloc, names, blocks, second.as_slice())?;
+            Ok(Stmt::If {
+                test,
+                yes,
+                no: Some(no),
+            })
         }
         tree::Stmt::While(test, body) => {
             let test = expression(alloc, names, test)?;
@@ -106,22 +122,12 @@ fn statement(alloc: Global, names: &Names, blocks: &mut Vec<List<Stmt>>, source:
 }
 
 #[cycle(stmt)]
-fn else_of(alloc: Global, names: &Names, blocks: &mut Vec<List<Stmt>>, source: &Option<Items<tree::Stmt>>) -> Result<Option<u32>, AllocError>
-    requires { Fits blocks.old.items (λ n. spec.else_blocks (meanings names.now) n (else_block source.now)) }
-    ensures value { IfOk result (λ b. b ≡ spec.else_number (meanings names.now) (length blocks.old.items) (else_block source.now)) }
-    ensures ended { IfOk result (λ b. Ends blocks.old.items blocks.new.items (λ n. spec.else_blocks (meanings names.now) n (else_block source.now))) }
-{
-    match source {
-        None => Ok(None),
-        Some(body) => {
-            let number = block(alloc, names, blocks, body.as_slice())?;
-            Ok(Some(number))
-        }
-    }
-}
-
-#[cycle(stmt)]
-fn statements(alloc: Global, names: &Names, blocks: &mut Vec<List<Stmt>>, source: &[tree::Stmt]) -> Result<Vec<Stmt>, AllocError>
+fn statements(
+    alloc: Global,
+    names: &Names,
+    blocks: &mut Vec<List<Stmt>>,
+    source: &[tree::Stmt],
+) -> Result<Vec<Stmt>, AllocError>
     requires { Fits blocks.old.items (λ n. spec.blocks_within (meanings names.now) n (block_of source.now)) }
     ensures value { IfOk result (λ r. map command r.items ≡ spec.commands_of (meanings names.now) (length blocks.old.items) (block_of source.now)) }
     ensures ended { IfOk result (λ r. Ends blocks.old.items blocks.new.items (λ n. spec.blocks_within (meanings names.now) n (block_of source.now))) }
@@ -135,7 +141,12 @@ fn statements(alloc: Global, names: &Names, blocks: &mut Vec<List<Stmt>>, source
 
 /// A block with those in it. The answer is its number.
 #[cycle(stmt)]
-pub fn block(alloc: Global, names: &Names, blocks: &mut Vec<List<Stmt>>, source: &[tree::Stmt]) -> Result<u32, AllocError>
+pub fn block(
+    alloc: Global,
+    names: &Names,
+    blocks: &mut Vec<List<Stmt>>,
+    source: &[tree::Stmt],
+) -> Result<u32, AllocError>
     requires { Fits blocks.old.items (λ n. spec.block_blocks (meanings names.now) n (block_of source.now)) }
     ensures value { IfOk result (λ b. b ≡ spec.block_number (meanings names.now) (length blocks.old.items) (block_of source.now)) }
     ensures ended { IfOk result (λ b. Ends blocks.old.items blocks.new.items (λ n. spec.block_blocks (meanings names.now) n (block_of source.now))) }

@@ -1,4 +1,4 @@
-use Rattle.std.proofs.Common.{◌≡◌, ◌++◌, ◌×◌, drop, length}
+use Rattle.std.proofs.Common.{◌≡◌, ◌++◌, drop, length}
 use Rattle.std.specs.Prelude.{map}
 use Rattle.cat_conditions.specs.Plain.{block_of}
 use Rattle.cat_resolve.specs.Form.{command, commands}
@@ -10,6 +10,6 @@ use Rattle.cat_resolve.proofs.blocks.+stmt.Given as goal
 abbrev pub invariant-statements-loop-one : goal.invariant-statements-loop-one
 invariant-statements-loop-one l =
     (map command l.found.items ++ spec.commands_of (meanings l.names) (length l.blocks.items) (block_of (drop l.one-index l.source))
-        ≡ spec.commands_of (meanings l.names) (length l.initial.blocks.items) (block_of l.source))
+    ≡ spec.commands_of (meanings l.names) (length l.initial.blocks.items) (block_of l.source))
     × (commands l.blocks.items ++ spec.blocks_within (meanings l.names) (length l.blocks.items) (block_of (drop l.one-index l.source))
-        ≡ commands l.initial.blocks.items ++ spec.blocks_within (meanings l.names) (length l.initial.blocks.items) (block_of l.source))
+    ≡ commands l.initial.blocks.items ++ spec.blocks_within (meanings l.names) (length l.initial.blocks.items) (block_of l.source))
