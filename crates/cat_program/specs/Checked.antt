@@ -7,6 +7,7 @@ use Rattle.cat_program.specs.declared.syntax.Stmt.{Stmt}
 use Rattle.cat_program.specs.declared.syntax.Stmt.TheVariants.{If, While, Repeat}
 use Rattle.cat_program.specs.Declares.{IsLaidOut, EachEventIs, EachDegrades}
 use Rattle.cat_program.specs.Body.{Simple, SetWord, SetElement, Emit, Raise, Body, Empty, Plain, When, Choice, Loop, Turns, tree_of}
+use Rattle.cat_program.specs.Meaning.{TaskState}
 use Rattle.cat_program.specs.Places.{expr_size, operands_size, Marks, tasks_marks, rest_in, tasks_size, events_size}
 
 -- A program: its variables and their first words; each task's name, first posts and block; each event as it is declared and the
@@ -47,6 +48,10 @@ program_marks p = tasks_marks (bodies_of p)
 
 abbrev pub rest_at : Checked → ℕ → Option Body
 rest_at p pc = rest_in (program_marks p) pc
+
+-- the first state of the tasks: the declared values, a post for each start, and no current list
+abbrev pub first_state : Checked → TaskState
+first_state p = record { store = record { words = p.words; posts = p.started }; current = None }
 
 -- ---- conditions
 
@@ -167,6 +172,20 @@ most_steps (Choice b p test on off rest) = expr_size test + 1 + max (most_steps 
 most_steps (Loop b p test body rest) = most_steps rest
 most_steps (Turns b p n body rest) = 1 + (n * (1 + most_steps body + 1) + 1) + most_steps rest
 
+-- how deep a list nests
+abbrev pub depth_of : Body → ℕ
+depth_of Empty = 1
+depth_of (Plain b p s rest) = depth_of rest
+depth_of (When b p e on rest) = max (1 + depth_of on) (depth_of rest)
+depth_of (Choice b p e on off rest) = max (1 + depth_of on) (max (1 + depth_of off) (depth_of rest))
+depth_of (Loop b p e body rest) = max (1 + depth_of body) (depth_of rest)
+depth_of (Turns b p n body rest) = max (1 + depth_of body) (depth_of rest)
+
+-- no list nests deeper than 32
+abbrev pub EachShallow : List Body → Type 0
+EachShallow [] = Unit {0}
+EachShallow (body ∷ bodies) = (depth_of body ≤ 32) × EachShallow bodies
+
 -- each body of a list
 abbrev pub EachTaskWorks : ℕ → ℕ → List Body → Type 0
 EachTaskWorks words posts [] = Unit {0}
@@ -211,6 +230,7 @@ pub record IsChecked (p : Checked) : Type 0 where
   pub few_tasks : length p.tasks ≤ 16
   pub few_events : length p.events ≤ 16
   pub lower : EachLower 0 p.blocks
+  pub tasks_shallow : EachShallow (bodies_of p)
   pub tasks_work : EachTaskWorks (length p.words) (length p.tasks) (bodies_of p)
   pub events_work : EachEventWorks (length p.words) (length p.tasks) (versions_of p)
   pub started : length p.started ≡ length p.tasks

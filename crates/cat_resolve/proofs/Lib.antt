@@ -3,3 +3,4 @@ pub mod Terms
 pub mod Lists
 pub mod Giving
 pub mod Statements
+pub mod SoFar

@@ -4,3 +4,7 @@ pub mod Form
 pub mod Resolved
 pub mod Blocks
 pub mod Ending
+pub mod Header
+pub mod Declaring
+pub mod Bodies
+pub mod Program

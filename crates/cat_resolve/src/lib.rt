@@ -2,6 +2,7 @@
 #![tactic(auto)]
 
 mod blocks;
+mod declarations;
 mod expression;
 mod names;
 
