@@ -4,3 +4,4 @@ pub mod Lists
 pub mod Giving
 pub mod Statements
 pub mod SoFar
+pub mod Built

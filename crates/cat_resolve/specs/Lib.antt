@@ -6,5 +6,6 @@ pub mod Blocks
 pub mod Ending
 pub mod Header
 pub mod Declaring
-pub mod Bodies
+pub mod Content
+pub mod Building
 pub mod Program

@@ -5,7 +5,7 @@ use Rattle.cat_program.specs.Checked.{Checked}
 use Rattle.cat_resolve.specs.Names.{Meanings, names_of}
 use Rattle.cat_resolve.specs.Form.{commands}
 use Rattle.cat_resolve.specs.Header.{words_in, variables_in, tasks_in, events_in}
-use Rattle.cat_resolve.specs.Bodies.{blocks_from, bodies_from, versions_from, mentions_in, started_from}
+use Rattle.cat_resolve.specs.Content.{blocks_from, bodies_from, versions_from, mentions_in, started_from}
 
 -- each part of the program is that of the source
 pub record IsProgramOf (tree : Tree) (p : Checked) : Type 0 where

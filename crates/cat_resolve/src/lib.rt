@@ -2,8 +2,10 @@
 #![tactic(auto)]
 
 mod blocks;
+mod bodies;
 mod declarations;
 mod expression;
 mod names;
+mod resolve;
 
-pub use names::{Meaning, Names};
+pub use resolve::Parts;
