@@ -5,3 +5,4 @@ pub mod Giving
 pub mod Statements
 pub mod SoFar
 pub mod Built
+pub mod Together

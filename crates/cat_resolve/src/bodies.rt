@@ -95,7 +95,10 @@ fn item(alloc: Global, names: &Names, bodies: &mut Bodies, item: &Item) -> Resul
             bodies.events.push(List::of(numbers))?;
             Ok(())
         }
-        Item::Degrade(events) => mention(names, &mut bodies.mentions, events.as_slice()),
+        Item::Degrade(events) => {
+            mention(names, &mut bodies.mentions, events.as_slice())?;
+            Ok(())
+        }
         Item::Start(task) => {
             start(names, &mut bodies.started, task.as_str());
             Ok(())
