@@ -1,16 +1,16 @@
 -- Each kind of expression and statement as plain data.
-use Rattle.std.proofs.Common.{◌≡◌, ℕ, Bool, List, [], ◌∷◌, Option, Some, None, map, ap, sym, ◌∙◌}
+use Rattle.std.proofs.Common.{◌≡◌, ℕ, Bool, List, Option, Some, None, map, ap, sym, ◌∙◌}
 use Rattle.cn_base.specs.declared.tree.Expr.{Expr, fold-Expr, fold-roll-Expr}
 use Rattle.cn_base.specs.declared.tree.Expr.TheVariants as expr
 use Rattle.cn_base.specs.declared.tree.Expr.TheOpen.{Expr-F}
-use Rattle.cn_base.specs.declared.tree.Further.{Further, fold-Further, fold-roll-Further, out-Further, fold_out-Further}
+use Rattle.cn_base.specs.declared.tree.Further.{Further, out-Further, fold_out-Further}
 use Rattle.cn_base.specs.declared.tree.Stmt.{Stmt, fold-Stmt, fold-roll-Stmt}
 use Rattle.cn_base.specs.declared.tree.Stmt.TheVariants as stmt
 use Rattle.cn_base.specs.declared.tree.Stmt.TheOpen.{Stmt-F}
 use Rattle.cn_base.specs.declared.tree.Operator.{Operator}
 use Rattle.cn_base.specs.declared.tree.Comparison.{Comparison}
 use Rattle.cn_base.specs.declared.tree.Sign.{Sign}
-use Rattle.cat_conditions.specs.Plain.{Term, number, truth, payload, variable, element, signed, chain, compare, Furthers, no_further, further, furthers_of, term_layer, further_layer, term_of, further_of, Action, set, set_at, out, post, choose, loop, turns, Actions, action_layer, action_of, block_of, else_block}
+use Rattle.cat_conditions.specs.Plain.{Term, number, truth, payload, variable, element, signed, chain, compare, furthers_of, term_layer, further_layer, term_of, further_of, Action, set, set_at, out, post, choose, loop, turns, action_layer, action_of, block_of, else_block}
 
 pub term_number : (n : ℕ) → term_of (expr.Number n) ≡ number n
 unfolding term_of
@@ -76,3 +76,7 @@ action_loop e xs = ap (fold-Stmt Action action_layer) (sym (stmt.rolls-While e x
 pub action_turns : (n : ℕ) (xs : List Stmt) → action_of (stmt.Repeat n xs) ≡ turns n (block_of xs)
 unfolding action_of
 action_turns n xs = ap (fold-Stmt Action action_layer) (sym (stmt.rolls-Repeat n xs)) ∙ fold-roll-Stmt Action action_layer (Stmt-F.Repeat n xs)
+
+pub ruleset term_laws = (term_number, term_truth, term_payload, term_name, term_element, term_signed, term_chain, term_compare)
+
+pub ruleset action_laws = (action_set, action_set_at, action_out, action_post, action_if, action_loop, action_turns)

@@ -1,11 +1,11 @@
 -- The pieces of a source: its items, statements and expressions in the order of their first tokens,
 -- an outer one before an inner one that starts with the same token.
-use Rattle.std.specs.Prelude.{ℕ, ◌-◌, Bool, true, false, List, [], ◌∷◌, ◌++◌, Option, Some, None}
+use Rattle.std.specs.Prelude.{ℕ, ◌-◌, Bool, true, false, List, [], ◌∷◌, ◌++◌}
 use Rattle.cn_base.specs.declared.tree.Item.{Item}
 use Rattle.cn_base.specs.declared.tree.Item.TheVariants as item
 use Rattle.cn_base.specs.declared.tree.Stmt.{Stmt}
 use Rattle.cn_base.specs.declared.tree.Tree.{Tree}
-use Rattle.cat_conditions.specs.Plain.{Term, number, truth, payload, variable, element, signed, chain, compare, Furthers, no_further, further, Action, set, set_at, out, post, choose, loop, turns, Actions, no_action, action, Else, no_else, otherwise, block_of}
+use Rattle.cat_conditions.specs.Plain.{Term, element, signed, chain, compare, Furthers, no_further, further, Action, set, set_at, out, post, choose, loop, turns, Actions, no_action, action, Else, no_else, otherwise, block_of}
 
 pub data Piece : Type 0 where
   an_item : Item → Piece

@@ -1,5 +1,9 @@
-//! The conditions.
+//! The sixteen conditions that a source must meet besides its grammar. `specs/` states each of them on
+//! the whole tree, by its own name, and which pieces offend against it.
 #![tactic(auto)]
 
-#[derive(Clone, Copy, Debug, PartialEq, Eq)]
-pub enum Sort { Int, Bool, Array, Task, Event }
+mod fault;
+mod sort;
+
+pub use fault::TypeFault;
+pub use sort::{Sort, ValueType};

@@ -1,4 +1,5 @@
-//! The program of a checked source: names become numbers, and blocks get theirs.
+//! The program of a checked source: names become numbers, and blocks get theirs. `specs/Program.antt` says
+//! what each part of it is, by the items of the source alone.
 #![tactic(auto)]
 
 mod blocks;
@@ -6,6 +7,6 @@ mod bodies;
 mod declarations;
 mod expression;
 mod names;
-mod resolve;
+mod program;
 
-pub use resolve::Parts;
+pub use program::{Parts, resolve};

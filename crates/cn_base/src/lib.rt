@@ -9,6 +9,8 @@ mod list;
 mod memory;
 mod putting;
 mod sink;
+#[cfg(test)]
+mod tests;
 mod text;
 pub mod tree;
 
@@ -21,9 +23,9 @@ pub use putting::{put, put_num};
 pub use sink::{Sink, WriteFail};
 pub use text::Text;
 
-/// The greatest number of ticks of a trace, and so of a board's life.
+/// The greatest number of ticks of a trace, and so of a board's life, in ticks.
 pub const MOST_TICKS: u32 = 1_000_000;
 
-/// Want of memory.
+/// Want of memory: the refusal of a call that can fail for nothing else.
 #[derive(Clone, Copy, Debug, PartialEq, Eq)]
 pub struct NoMemory;

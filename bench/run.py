@@ -1,0 +1,63 @@
+#!/usr/bin/env python3
+"""Times a program with the words of catnap on generated inputs.
+
+usage: bench/run.py PROGRAM [REPEATS] [CASE..]
+
+Prints one line a case: its name, the median seconds of REPEATS runs (5), the peak memory in KB, the status and the
+count of bytes written. Give it two programs, one after the other, to compare them on one machine.
+"""
+import os
+import resource
+import statistics
+import subprocess
+import sys
+import tempfile
+import time
+
+
+def long_task(statement, count):
+    """A source whose one task does a statement over and over, and the words that run it whole."""
+    return "int x = 0; task t {\n" + (statement + "\n") * count + "} start t;\n"
+
+
+# name: (files, words)
+CASES = {
+    "run-14900-sums": ({"F": long_task("x=x+1;", 14900)}, ["run", "F", "1000000"]),
+    "run-29000-outputs": ({"F": long_task("out 1,x;", 29000)}, ["run", "F", "1000000"]),
+    "run-names-1024": (
+        {"F": "".join(f"int v{i} = {i};" for i in range(1024)) + "task t {" + "".join(f"v{i}=v{(i * 7 + 3) % 1024}+1;" for i in range(1024)) * 10 + "} start t;"},
+        ["run", "F", "1000000"],
+    ),
+}
+
+
+def measure(program, words, folder, repeats):
+    seconds, peak, status, size = [], 0, None, 0
+    for _ in range(repeats):
+        with open(os.path.join(folder, "written"), "wb") as out:
+            began = time.perf_counter()
+            child = subprocess.Popen([program, *words], cwd=folder, stdout=out, stderr=subprocess.DEVNULL)
+            _, code, usage = os.wait4(child.pid, 0)
+            seconds.append(time.perf_counter() - began)
+        peak = max(peak, usage.ru_maxrss)
+        status = os.waitstatus_to_exitcode(code)
+        size = os.path.getsize(os.path.join(folder, "written"))
+    return statistics.median(seconds), peak, status, size
+
+
+def main():
+    if len(sys.argv) < 2:
+        sys.exit(__doc__)
+    program = os.path.abspath(sys.argv[1])
+    repeats = int(sys.argv[2]) if len(sys.argv) > 2 else 5
+    for name in sys.argv[3:] or CASES:
+        files, words = CASES[name]
+        with tempfile.TemporaryDirectory() as folder:
+            for file, text in files.items():
+                with open(os.path.join(folder, file), "w") as made:
+                    made.write(text)
+            median, peak, status, size = measure(program, words, folder, repeats)
+        print(f"{name} {median:.4f} s {peak} KB status {status} bytes {size}")
+
+
+main()

@@ -1,0 +1,3 @@
+pub mod StateValue
+pub mod Cursor
+pub mod Steps

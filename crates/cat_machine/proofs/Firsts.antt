@@ -1,0 +1,25 @@
+-- The first working state of a program.
+use Rattle.std.proofs.Common.{◌≡◌, ℕ, List, [], length, None, refl, ap, ◌∙◌}
+use Rattle.std.specs.Prelude.{ℤ}
+use Rattle.cat_program.specs.Checked.{Checked, IsChecked, first_state, program_marks}
+use Rattle.cat_machine.specs.Held.{Held}
+use Rattle.cat_machine.specs.Code.{code_of}
+use Rattle.cat_machine.specs.Fits.{Corresponds, Fits, Idle}
+
+abbrev first_held : List ℤ → List ℕ → List ℤ → ℤ → Held
+first_held words posts stack payload = record { words = words; posts = posts; place = None; kept = None; stack = stack; payload = payload }
+
+module _ (p : Checked) (checked : IsChecked p) (words : List ℤ) (posts : List ℕ) (stack : List ℤ) (payload : ℤ) (w : words ≡ p.words) (t : posts ≡ p.started) (s : stack ≡ []) where
+  first_corresponds : Corresponds (program_marks p) (first_held words posts stack payload) (first_state p)
+  first_corresponds = record { words = w; posts = t; place = tt; free = refl; empty = s }
+
+  pub first_fits : Fits p (code_of p) (first_held words posts stack payload) × Corresponds (program_marks p) (first_held words posts stack payload) (first_state p)
+  first_fits = (
+    record {
+      checked = checked;
+      code_is = refl;
+      shape = record { words_are = ap length w; posts_are = ap length t ∙ checked.started };
+      stands = Idle (record { state = first_state p; corresponds = first_corresponds });
+    },
+    first_corresponds,
+  )

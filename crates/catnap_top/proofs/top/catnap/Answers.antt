@@ -1,0 +1,11 @@
+use Rattle.catnap_top.proofs.Causes.{asked, causes, complete}
+use Rattle.catnap_top.proofs.top.catnap.Goals as goal
+
+pub returns : goal.returns
+returns g c =
+    record {
+      answer = c.respond.ensures.answer;
+      asked = asked _ _ _ _ _ c.respond.ensures.answer;
+      causes = causes _ _ _ _ _ c.respond.ensures.answer;
+      complete = complete _ _ _ _ _ c.respond.ensures.answer;
+    }

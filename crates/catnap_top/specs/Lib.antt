@@ -1,0 +1,14 @@
+pub mod Answer
+pub mod Statuses
+pub mod Words
+pub mod Small
+pub mod Refusals
+pub mod After
+pub mod Exact
+pub mod Machine
+pub mod Run
+pub mod Prepared
+pub mod Reply
+pub mod Reads
+pub mod Course
+pub mod Clauses

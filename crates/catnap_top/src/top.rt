@@ -1,0 +1,92 @@
+ghost use Rattle.std.specs.Prelude.{◌≡◌};
+ghost use Rattle.catnap_top.specs.Words.{texts};
+ghost use Rattle.catnap_top.specs.Reply.{reply_answer};
+ghost use Rattle.catnap_top.specs.Course.{outside, Answers, Ends};
+ghost use Rattle.catnap_top.specs.Clauses.{HasAsked, HasCauses, IsComplete};
+
+use crate::Status;
+use crate::reading::{ReadStop, read_files};
+use crate::reply::{Reply, reply_to};
+use crate::words::{form_in, names_in};
+use cn_base::{Inputs, Sink};
+use std::alloc::Global;
+
+/// Writes what is to be answered.
+fn finish<K: Sink>(sink: &mut K, reply: Reply) -> Status
+    ensures { Ends (reply_answer reply) (K.written sink.old) (K.written sink.new) (K.faults sink.old) (K.faults sink.new) result }
+{
+    let status = reply.status();
+    match reply.write(sink) {
+        Ok(()) => status,
+        Err(_) => Status::WriteFault,
+    }
+}
+
+/// Reads, answers and writes.
+fn respond<I: Inputs, K: Sink>(
+    alloc: Global,
+    words: &[String],
+    inputs: &mut I,
+    sink: &mut K,
+) -> Status
+    ensures answer { Answers (texts words.now) (I.files inputs.old)
+        (outside (I.asked inputs.old) (I.faults inputs.old) (K.written sink.old) (K.faults sink.old))
+        (outside (I.asked inputs.new) (I.faults inputs.new) (K.written sink.new) (K.faults sink.new))
+        result }
+{
+    let form = match form_in(words) {
+        Some(form) => form,
+        None => return finish(sink, Reply::Usage),
+    };
+    let names = names_in(words, &form);
+    let files = match read_files(alloc, inputs, names) {
+        Ok(files) => files,
+        Err(ReadStop::Failed(count)) => return finish(sink, Reply::ReadFault(count + 1)),
+        Err(ReadStop::NoMemory) => return Status::NoMemory,
+    };
+    match reply_to(alloc, form, files.as_slice()) {
+        Ok(reply) => finish(sink, reply),
+        Err(_) => Status::NoMemory,
+    }
+}
+
+/// Answers words by what the inputs' files call for, and writes the answer into the sink.
+///
+/// The words are `run SRC STEPS`, STEPS being 1 to 7 decimal digits of at most 1,000,000: the `out`
+/// lines of the first STEPS steps of the source's tasks, or of all that exist, and how many steps
+/// these are. All memory is taken before the first byte is written.
+///
+/// Refusals: `Usage` where the words are of no form; `ReadFault` only where the inputs' count of
+/// faults rose; `BadSource` where the source has more than 262,144 bytes, has no tokens or no tree,
+/// or is not a small one, with the first of these kinds; each of these writes one fault line.
+/// `WriteFault` only where the sink's count of faults rose, and a proper prefix of the text has been
+/// written then. `NoMemory` before the first byte is written.
+pub fn catnap<I: Inputs, K: Sink>(
+    alloc: Global,
+    words: &[String],
+    inputs: &mut I,
+    sink: &mut K,
+) -> Status
+    // What the words and the files call for was written, or memory ran out before the first write.
+    ensures answer { Answers (texts words.now) (I.files inputs.old)
+        (outside (I.asked inputs.old) (I.faults inputs.old) (K.written sink.old) (K.faults sink.old))
+        (outside (I.asked inputs.new) (I.faults inputs.new) (K.written sink.new) (K.faults sink.new))
+        result }
+    // Which files were asked for, and in which order.
+    ensures asked { HasAsked (texts words.now)
+        (outside (I.asked inputs.old) (I.faults inputs.old) (K.written sink.old) (K.faults sink.old))
+        (outside (I.asked inputs.new) (I.faults inputs.new) (K.written sink.new) (K.faults sink.new))
+        result }
+    // Where faults of reading and writing come from.
+    ensures causes { HasCauses (texts words.now)
+        (outside (I.asked inputs.old) (I.faults inputs.old) (K.written sink.old) (K.faults sink.old))
+        (outside (I.asked inputs.new) (I.faults inputs.new) (K.written sink.new) (K.faults sink.new))
+        result }
+    // Where the files are told and nothing fails, the whole answer comes.
+    ensures complete { IsComplete (texts words.now) (I.files inputs.old)
+        (outside (I.asked inputs.old) (I.faults inputs.old) (K.written sink.old) (K.faults sink.old))
+        (outside (I.asked inputs.new) (I.faults inputs.new) (K.written sink.new) (K.faults sink.new))
+        result }
+{
+    respond(alloc, words, inputs, sink)
+}

@@ -1,0 +1,6 @@
+pub mod Fault
+pub mod FillText
+pub mod Number
+pub mod Ranges
+pub mod RowsValue
+pub mod Table

@@ -1,0 +1,34 @@
+/// What is wrong with a table, in the order in which a row is looked at.
+#[derive(Clone, Copy, PartialEq, Eq, Debug)]
+pub enum RowKind {
+    /// Row 0: the file is too long.
+    Long,
+    /// Row 0: it is missing or not the header, or the file begins with a byte order mark.
+    Header,
+    /// The row is one more than the table may have.
+    Many,
+    /// The row has another number of fields than the header.
+    Fields,
+    /// A field is not spelled as a number.
+    Number,
+    /// A number is out of its range.
+    Range,
+    /// A name that nothing has.
+    Name,
+    /// The fill is not spelled in hexadecimal digits.
+    Fill,
+    /// The row does not come after the one before it.
+    Order,
+    /// With this row the ticks are too many.
+    Total,
+    /// The table has too few rows.
+    Few,
+}
+
+/// Why a text is no table.
+#[derive(Clone, Copy, PartialEq, Eq, Debug)]
+pub enum TableFault {
+    /// The first row with a fault, the header being row 0, and what is wrong with it.
+    Bad(u32, RowKind),
+    NoMemory,
+}

@@ -1,0 +1,17 @@
+//! The rows of a table, one after the other, with the first fault among them, and the fields that
+//! several tables share: numbers, their ranges and fills.
+#![tactic(auto)]
+
+mod fault;
+mod fill_text;
+mod ranges;
+mod reading;
+mod spelled;
+#[cfg(test)]
+mod tests;
+
+pub use fault::{RowKind, TableFault};
+pub use fill_text::fill_of;
+pub use ranges::{within, word};
+pub use reading::{MOST_BYTES, Rows, open_table};
+pub use spelled::number;

@@ -1,0 +1,5 @@
+use Rattle.std.proofs.Common.{◌≡◌, ◌≤◌, ◌+◌, ◌*◌, ◌/◌, ◌^◌, sum_by, take}
+use Rattle.demand_core.proofs.demand.rbf.Given as goal
+
+abbrev pub invariant-loop-x : goal.invariant-loop-x
+invariant-loop-x l = (l.sum ≡ sum_by (λ x. (l.l / x.spacing + 1) * x.units) (take l.x-index l.loads)) × (l.sum ≤ l.x-index * 2 ^ 97)

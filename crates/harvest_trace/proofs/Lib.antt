@@ -1,0 +1,4 @@
+pub mod FailSteps
+pub mod FailureLemmas
+pub mod Steps
+pub mod Timelines

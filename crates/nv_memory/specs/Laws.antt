@@ -1,0 +1,49 @@
+-- What holds of writes, of runs and of layouts, whatever they are: the crates above have it from the functions of src/laws.rt.
+use Rattle.std.specs.Prelude.{◌≡◌, ◌≢◌, ℕ, ◌+◌, ◌*◌, ◌<◌, ◌≤◌, List, [], ◌∷◌, ◌++◌, length, take, drop}
+use Rattle.nv_memory.specs.declared.layout.Layout.{Layout}
+use Rattle.nv_memory.specs.declared.entry.Op.{Op}
+use Rattle.nv_memory.specs.declared.board.Answer.{Answer}
+use Rattle.nv_memory.specs.declared.board.Answer.TheVariants.{Done}
+use Rattle.nv_memory.specs.Bytes.{written, bytes_at}
+use Rattle.nv_memory.specs.Layout.{cells_of, lines_of, slot_at, log_at, record_len, record_at, size_of}
+use Rattle.nv_memory.specs.Board.{State, Steps, Runs}
+
+-- a write changes the bytes of its range and no others
+pub record WritesAreLocal : Type 0 where
+  pub size : (at : ℕ) (bytes image : List ℕ) → at + length bytes ≤ length image → length (written at bytes image) ≡ length image
+  -- what stands in front of it stays, and what stands behind it
+  pub front : (n at : ℕ) (bytes image : List ℕ) → n ≤ at → at ≤ length image → take n (written at bytes image) ≡ take n image
+  pub back : (n at : ℕ) (bytes image : List ℕ) → at + length bytes ≤ n → at + length bytes ≤ length image → drop n (written at bytes image) ≡ drop n image
+  -- its range has its bytes, and each range before or behind it what it had
+  pub own : (at : ℕ) (bytes image : List ℕ) → at + length bytes ≤ length image → bytes_at at (length bytes) (written at bytes image) ≡ bytes
+  pub before : (p n at : ℕ) (bytes image : List ℕ) → p + n ≤ at → at ≤ length image → bytes_at p n (written at bytes image) ≡ bytes_at p n image
+  pub behind : (p n at : ℕ) (bytes image : List ℕ) → at + length bytes ≤ p → at + length bytes ≤ length image → bytes_at p n (written at bytes image) ≡ bytes_at p n image
+  -- two writes side by side are one
+  pub joined : (at : ℕ) (first second image : List ℕ) → at + length first + length second ≤ length image → written (at + length first) second (written at first image) ≡ written at (first ++ second) image
+  -- a write of what stands there changes nothing, and neither does one of no bytes
+  pub same : (at : ℕ) (bytes image : List ℕ) → at ≤ length image → bytes_at at (length bytes) image ≡ bytes → written at bytes image ≡ image
+  pub none : (at : ℕ) (image : List ℕ) → written at [] image ≡ image
+  -- lists that agree before a place agree in each range before it
+  pub range : (p n at : ℕ) (xs ys : List ℕ) → p + n ≤ at → take at xs ≡ take at ys → bytes_at p n xs ≡ bytes_at p n ys
+
+-- runs follow one another
+pub record RunsAreJoined : Type 0 where
+  pub joined : (first second : List Op) (old mid new : State) (answer : Answer) → Runs old first Done mid → Runs mid second answer new → Runs old (first ++ second) answer new
+  -- a run that stopped asks for nothing more
+  pub stopped : (first second : List Op) (old new : State) (answer : Answer) → answer ≢ Done → Runs old first answer new → Runs old (first ++ second) answer new
+  pub one : (op : Op) (old new : State) (answer : Answer) → Steps old op answer new → Runs old (op ∷ []) answer new
+  -- the operation behind a run that was done, where it stops
+  pub stops : (first later : List Op) (op : Op) (old mid new : State) (answer : Answer) → answer ≢ Done → Runs old first Done mid → Steps mid op answer new → Runs old (first ++ op ∷ later) answer new
+
+-- the gate, the slots, the log and its records stand apart
+pub record PartsAreApart (l : Layout) : Type 0 where
+  pub gate : (s : ℕ) → 1 ≤ slot_at l s
+  pub slots : slot_at l 0 + 64 * lines_of l ≤ slot_at l 1
+  pub log : (s : ℕ) → s ≤ 1 → slot_at l s + 64 * lines_of l ≤ log_at l
+  pub records : (k place : ℕ) → k < place → record_at l k + record_len l ≤ record_at l place
+  pub size : (place : ℕ) → place < l.log → record_at l place + record_len l ≤ size_of l
+  pub begin : (place : ℕ) → log_at l ≤ record_at l place
+  pub fits : log_at l ≤ size_of l
+  -- a slot has a line at least, and its numbers fit into its lines
+  pub some_lines : 1 ≤ lines_of l
+  pub cells : cells_of l ≤ 16 * lines_of l

@@ -1,0 +1,12 @@
+use Rattle.std.proofs.Common.{◌≡◌, ℕ, ◌<◌, length, get_or}
+use Rattle.recovery.proofs.fresh.first_posts.Given as goal
+
+abbrev pub invariant-loop-t : goal.invariant-loop-t
+invariant-loop-t l =
+    record {
+      others : l.slot ≡ record l.fn.slot { posts = l.slot.posts };
+      long : length l.slot.posts ≡ length l.fn.slot.posts;
+      end : l.t-end ≡ length l.program.tasks;
+      started : length l.program.started ≡ length l.program.tasks;
+      below : (j : ℕ) → j < l.t → get_or l.slot.posts j 0 ≡ get_or l.program.started j 0;
+    }

@@ -1,0 +1,14 @@
+ghost use Rattle.recovery.specs.Laws.{CommitsLast};
+
+use nv_log::entries_are_spelled_once;
+use nv_memory::{parts_are_apart, writes_are_local};
+
+/// A committed value is one at most, and stays until a save commits another one: neither an append nor a write of a
+/// slot's lines changes it.
+pub fn commits_last()
+    ensures { CommitsLast }
+{
+    writes_are_local();
+    parts_are_apart();
+    entries_are_spelled_once();
+}
