@@ -1,5 +1,5 @@
 -- The plain form of a chain, by the list of its operands.
-use Rattle.std.proofs.Common.{◌≡◌, ℕ, List, [], ◌∷◌, ◌++◌, refl, sym, ap, ◌∙◌, Option, Some, None}
+use Rattle.std.proofs.Common.{◌≡◌, List, [], ◌∷◌, ◌++◌, refl, ap, ◌∙◌, Option, Some, None}
 use Rattle.std.proofs.Common.{Vec, Global}
 use Rattle.std.specs.Prelude.{Box, Result, Ok, Err, IfOk}
 use Rattle.cat_program.specs.declared.syntax.Operator.{Operator}

@@ -1,5 +1,5 @@
 -- What is declared so far, with the items that are left.
-use Rattle.std.proofs.Common.{◌≡◌, ℕ, ◌+◌, ◌≤◌, List, [], ◌∷◌, ◌++◌, length}
+use Rattle.std.proofs.Common.{◌≡◌, ℕ, ◌+◌, ◌≤◌, List, ◌++◌, length}
 use Rattle.cn_base.specs.declared.tree.Item.{Item}
 use Rattle.cat_resolve.specs.declared.declarations.Declarations.{Declarations}
 use Rattle.cat_resolve.specs.Meanings.{meanings}

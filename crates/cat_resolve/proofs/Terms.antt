@@ -1,5 +1,5 @@
 -- What each kind of expression of a source becomes.
-use Rattle.std.proofs.Common.{◌≡◌, ℕ, Bool, List, [], ◌∷◌, map, ap, sym, ◌∙◌, refl}
+use Rattle.std.proofs.Common.{◌≡◌, ℕ, Bool, List, ◌∷◌, map, ap, sym, ◌∙◌}
 use Rattle.cn_base.specs.declared.tree.Expr.{Expr}
 use Rattle.cn_base.specs.declared.tree.Expr.TheVariants as expr
 use Rattle.cn_base.specs.declared.tree.Further.{Further, out-Further}

@@ -1,8 +1,8 @@
 -- The program of a source.
-use Rattle.std.specs.Prelude.{◌≡◌, ℕ, List, [], length, replicate}
+use Rattle.std.specs.Prelude.{◌≡◌, length, replicate}
 use Rattle.cn_base.specs.declared.tree.Tree.{Tree}
 use Rattle.cat_program.specs.Checked.{Checked}
-use Rattle.cat_resolve.specs.Names.{Meanings, names_of}
+use Rattle.cat_resolve.specs.Names.{names_of}
 use Rattle.cat_resolve.specs.Form.{commands}
 use Rattle.cat_resolve.specs.Header.{words_in, variables_in, tasks_in, events_in}
 use Rattle.cat_resolve.specs.Content.{blocks_from, bodies_from, versions_from, mentions_in, started_from}

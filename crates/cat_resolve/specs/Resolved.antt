@@ -1,5 +1,5 @@
 -- The program of a source: what its expressions and statements become once names stand for numbers.
-use Rattle.std.specs.Prelude.{ℕ, ◌+◌, ℤ, pos, Bool, true, false, List, [], ◌∷◌, ◌++◌, length, Option, Some, None}
+use Rattle.std.specs.Prelude.{ℕ, pos, Bool, true, false, Option, Some}
 use Rattle.std.specs.Int.{w32, cast_signed}
 use Rattle.cn_base.specs.declared.tree.Operator.{Operator as SourceOperator}
 use Rattle.cn_base.specs.declared.tree.Operator.TheVariants as source

@@ -1,9 +1,7 @@
 use Rattle.cn_base.specs.declared.tree.Stmt.{the_lemmas}
-use Rattle.std.proofs.Common.{rules, arith, ◌≡◌, ◌+◌, [], ◌∷◌, ◌++◌, Some, ap, sym, ◌∙◌, drop, length, append-nil, refl}
-use Rattle.std.specs.Prelude.{map}
+use Rattle.std.proofs.Common.{rules, arith, ◌+◌, [], ◌∷◌, ◌++◌, Some, ap, sym, drop, length, append-nil, refl}
 use Rattle.cat_conditions.specs.Plain.{action_of, block_of, no_else, otherwise}
 use Rattle.cat_conditions.proofs.PlainLaws.{action_set, action_set_at, action_out, action_post, action_if, action_loop, action_turns}
-use Rattle.cat_resolve.specs.Form.{commands}
 use Rattle.cat_resolve.specs.Meanings.{meanings}
 use Rattle.cat_resolve.specs.Blocks as spec
 use Rattle.cat_resolve.proofs.Lists.{item_next}

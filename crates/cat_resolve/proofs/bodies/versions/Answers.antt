@@ -1,4 +1,4 @@
-use Rattle.std.proofs.Common.{◌≡◌, ◌<◌, ◌+◌, ◌^◌, ◌++◌, ap, sym, ◌∙◌, drop, length, subst, List}
+use Rattle.std.proofs.Common.{◌<◌, ◌+◌, ◌^◌, ◌++◌, ap, sym, ◌∙◌, drop, length, subst, List}
 use Rattle.cn_base.specs.declared.tree.Stmt.{Stmt}
 use Rattle.cat_conditions.specs.Plain.{block_of}
 use Rattle.cat_resolve.specs.Form.{commands}

@@ -1,7 +1,4 @@
-use Rattle.std.proofs.Common.{◌≡◌, ◌++◌, ◌+◌, ◌≤◌, drop, length, ℕ, List}
-use Rattle.cat_resolve.specs.Header as spec
-use Rattle.cat_resolve.specs.Names.{first_of, names_from, names_of}
-use Rattle.cat_resolve.specs.Meanings.{meanings}
+use Rattle.std.proofs.Common.{drop}
 use Rattle.cat_resolve.proofs.SoFar.{Declared}
 use Rattle.cat_resolve.proofs.declarations.declare_all.Given as goal
 

@@ -1,6 +1,6 @@
-use Rattle.std.proofs.Common.{◌≡◌, [], ap, sym, ◌∙◌, drop, ◌+◌}
+use Rattle.std.proofs.Common.{ap, sym, ◌∙◌, drop, ◌+◌}
 use Rattle.std.proofs.lemmas.List.{drop_all}
-use Rattle.cat_resolve.specs.Form.{join, operands_of, form, operand}
+use Rattle.cat_resolve.specs.Form.{join, operands_of, form}
 use Rattle.cat_resolve.specs.Meanings.{meanings}
 use Rattle.cat_resolve.proofs.Forms.{join-none, join-with, forms-to}
 use Rattle.cat_resolve.proofs.Lists.{item_next}

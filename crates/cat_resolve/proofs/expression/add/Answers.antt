@@ -1,4 +1,4 @@
-use Rattle.std.proofs.Common.{◌≡◌, ap, ◌∙◌}
+use Rattle.std.proofs.Common.{ap, ◌∙◌}
 use Rattle.cat_resolve.specs.Form.{operands_of}
 use Rattle.cat_resolve.proofs.Forms.{operands-more}
 use Rattle.cat_resolve.proofs.expression.add.Goals as goal

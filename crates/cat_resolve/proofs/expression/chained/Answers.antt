@@ -1,4 +1,4 @@
-use Rattle.std.proofs.Common.{◌≡◌, ap, ◌∙◌}
+use Rattle.std.proofs.Common.{ap, ◌∙◌}
 use Rattle.cat_resolve.specs.Form.{chain, operands_of, form}
 use Rattle.cat_resolve.proofs.Forms.{chain-is}
 use Rattle.cat_resolve.proofs.expression.chained.Goals as goal
