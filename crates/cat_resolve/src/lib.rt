@@ -10,3 +10,6 @@ mod names;
 mod program;
 
 pub use program::{Parts, resolve};
+
+#[cfg(test)]
+mod tests;
