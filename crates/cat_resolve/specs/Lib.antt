@@ -1,0 +1,11 @@
+pub mod Names
+pub mod Meanings
+pub mod Form
+pub mod Resolved
+pub mod Blocks
+pub mod Ending
+pub mod Header
+pub mod Declaring
+pub mod Content
+pub mod Building
+pub mod Program

@@ -1,0 +1,15 @@
+//! The program of a checked source: names become numbers, and blocks get theirs. `specs/Program.antt` says
+//! what each part of it is, by the items of the source alone.
+#![tactic(auto)]
+
+mod blocks;
+mod bodies;
+mod declarations;
+mod expression;
+mod names;
+mod program;
+
+pub use program::{Parts, resolve};
+
+#[cfg(test)]
+mod tests;
