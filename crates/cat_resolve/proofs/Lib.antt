@@ -6,3 +6,5 @@ pub mod Statements
 pub mod SoFar
 pub mod Built
 pub mod Together
+pub mod Small
+pub mod Counted
