@@ -23,9 +23,17 @@ pub use putting::{put, put_num};
 pub use sink::{Sink, WriteFail};
 pub use text::Text;
 
+use std::alloc::AllocError;
+
 /// The greatest number of ticks of a trace, and so of a board's life, in ticks.
 pub const MOST_TICKS: u32 = 1_000_000;
 
 /// Want of memory: the refusal of a call that can fail for nothing else.
 #[derive(Clone, Copy, Debug, PartialEq, Eq)]
 pub struct NoMemory;
+
+impl From<AllocError> for NoMemory {
+    fn from(_: AllocError) -> NoMemory {
+        NoMemory
+    }
+}
