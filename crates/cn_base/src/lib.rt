@@ -21,9 +21,8 @@ pub use list::List;
 pub use memory::{AskedRead, File, MemInputs, MemSink, SilentInputs, SilentSink};
 pub use putting::{put, put_num};
 pub use sink::{Sink, WriteFail};
-pub use text::Text;
-
 use std::alloc::AllocError;
+pub use text::Text;
 
 /// The greatest number of ticks of a trace, and so of a board's life, in ticks.
 pub const MOST_TICKS: u32 = 1_000_000;
