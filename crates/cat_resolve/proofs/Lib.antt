@@ -8,3 +8,5 @@ pub mod Built
 pub mod Together
 pub mod Small
 pub mod Counted
+pub mod Numbers
+pub mod ByItem
