@@ -10,3 +10,4 @@ pub mod Small
 pub mod Counted
 pub mod Numbers
 pub mod ByItem
+pub mod Standing
