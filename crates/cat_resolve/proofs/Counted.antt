@@ -24,7 +24,7 @@ item_words_length (item.Event x t d vs) = refl
 item_words_length (item.Degrade xs) = refl
 item_words_length (item.Start x) = refl
 
-words_length : (items : List Item) → length (words_in items) ≡ word_count items
+pub words_length : (items : List Item) → length (words_in items) ≡ word_count items
 words_length [] = refl
 words_length (i ∷ items) =
     let a : length (item_words i ++ words_in items) ≡ length (item_words i) + length (words_in items) = length-append (item_words i) (words_in items) in

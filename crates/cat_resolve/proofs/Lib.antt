@@ -11,3 +11,4 @@ pub mod Counted
 pub mod Numbers
 pub mod ByItem
 pub mod Standing
+pub mod LaidOut
