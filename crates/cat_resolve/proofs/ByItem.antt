@@ -1,6 +1,7 @@
 -- The pieces of a source by its items: what only items are or have is found at the items alone.
-use Rattle.std.proofs.Common.{◌≡◌, ℕ, suc, zero, ◌+◌, ◌<◌, Bool, true, false, List, [], ◌∷◌, ◌++◌, length, Option, Some, None, refl, ap, sym, ◌∙◌, subst, arith, append_assoc}
+use Rattle.std.proofs.Common.{◌≡◌, ℕ, suc, Bool, true, false, List, [], ◌∷◌, ◌++◌, length, Option, None, refl, ap, ◌∙◌, arith}
 use Rattle.std.specs.Prelude.{filter_map, flat_map}
+use Rattle.std.specs.List.{cons_option}
 use Rattle.std.proofs.lemmas.Bool.{false_from_ne_true}
 use Rattle.std.proofs.lemmas.List.Elements.{filter_map-append}
 use Rattle.std.proofs.lemmas.List.Concat.{flat_map-append}
@@ -86,14 +87,16 @@ filter_none : {A : Type 0} (f : Piece → Option A) → OfItemsAlone f → (ps :
 filter_none f o [] h = refl
 filter_none f o (p ∷ ps) h = rw (o p h.0) (filter_none f o ps h.1)
 
+-- what stands in an item adds nothing
+pub filter_behind : {A : Type 0} (f : Piece → Option A) → OfItemsAlone f → (i : Item) (items : List Item)
+    → filter_map f (item_pieces i ++ items_pieces items) ≡ filter_map f (items_pieces items)
+filter_behind f o i items =
+    filter_map-append f (item_pieces i) (items_pieces items) ∙ ap (λ l. l ++ filter_map f (items_pieces items)) (filter_none f o (item_pieces i) (item_inner i))
+
 -- what one item has stands before what the others have
 pub filter_item : {A : Type 0} (f : Piece → Option A) → OfItemsAlone f → (i : Item) (items : List Item)
-    → filter_map f (items_pieces (i ∷ items)) ≡ filter_map f (an_item i ∷ items_pieces items)
-filter_item f o i items =
-    let a : filter_map f (item_pieces i ++ items_pieces items) ≡ filter_map f (item_pieces i) ++ filter_map f (items_pieces items) = filter_map-append f (item_pieces i) (items_pieces items) in
-    let b : filter_map f (item_pieces i) ≡ [] = filter_none f o (item_pieces i) (item_inner i) in
-    let c : filter_map f (item_pieces i ++ items_pieces items) ≡ filter_map f (items_pieces items) = a ∙ ap (λ l. l ++ filter_map f (items_pieces items)) b in
-    rw c
+    → filter_map f (items_pieces (i ∷ items)) ≡ cons_option (f (an_item i)) (filter_map f (items_pieces items))
+filter_item f o i items = ap (cons_option (f (an_item i))) (filter_behind f o i items)
 
 abbrev pub ListOfItemsAlone : {A : Type 0} → (Piece → List A) → Type 0
 ListOfItemsAlone f = (p : Piece) → IsInner p → f p ≡ []

@@ -1,13 +1,14 @@
 -- Where a program's variables stand, and when its events come.
-use Rattle.std.proofs.Common.{◌≡◌, ℕ, suc, ◌+◌, ◌≤◌, Bool, true, false, List, [], ◌∷◌, ◌++◌, length, refl, ap, sym, ◌∙◌, subst, subst₂, arith}
-use Rattle.std.specs.Prelude.{not, ◌&&◌, nat_le}
-use Rattle.std.proofs.lemmas.Bool.{not-false, and_parts, leb-true, ltb-false}
+use Rattle.std.proofs.Common.{◌≡◌, ℕ, suc, ◌+◌, ◌≤◌, true, false, List, [], ◌∷◌, ◌++◌, length, refl, ap, sym, ◌∙◌, subst, arith}
+use Rattle.std.specs.Prelude.{◌&&◌, nat_le}
+use Rattle.std.proofs.lemmas.Bool.{false≢true, not-false, and_parts, leb-true, ltb-false}
 use Rattle.cn_base.specs.declared.tree.Stmt.{Stmt as SourceStmt}
 use Rattle.cn_base.specs.declared.tree.Item.{Item}
 use Rattle.cn_base.specs.declared.tree.Item.TheVariants as item
 use Rattle.cn_base.specs.declared.tree.Timing.{Timing as SourceTiming}
 use Rattle.cn_base.specs.declared.tree.Timing.TheVariants as source
 use Rattle.cn_base.specs.declared.tree.Tree.{Tree}
+use Rattle.cn_base.specs.Versions.{has_version, all_have_versions}
 use Rattle.cat_program.specs.declared.headers.Variable.{Variable}
 use Rattle.cat_program.specs.declared.headers.Event.{Event}
 use Rattle.cat_program.specs.Checked.{Checked}
@@ -24,7 +25,7 @@ use Rattle.cat_resolve.specs.Program.{IsProgramOf}
 use Rattle.cat_resolve.proofs.Small.{is_small}
 use Rattle.cat_resolve.proofs.Counted.{words_length}
 use Rattle.cat_resolve.proofs.ByItem.{EachFails, each_fails}
-use Rattle.cat_resolve.proofs.Standing.{in_range}
+use Rattle.cat_resolve.proofs.Sorts.{in_range}
 
 -- ---- variables
 
@@ -68,3 +69,51 @@ begins_in (source.Spacing least) h = omega arith
 pub numbers_length : (names : Meanings) (n : ℕ) (vs : List (List SourceStmt)) → length (versions_numbers names n vs) ≡ length vs
 numbers_length names n [] = refl
 numbers_length names n (v ∷ vs) = ap suc (numbers_length names (n + length (block_blocks names n (block_of v))) vs)
+
+some_version : (names : Meanings) (n : ℕ) (x : List ℕ) (t : SourceTiming) (d : ℕ) (vs : List (List SourceStmt)) → has_version (item.Event x t d vs) ≡ true → 1 ≤ length (versions_numbers names n vs)
+some_version names n x t d [] h = absurd (false≢true h)
+some_version names n x t d (v ∷ vs) h = omega arith
+
+event_is : (names : Meanings) (n : ℕ) (x : List ℕ) (t : SourceTiming) (d : ℕ) (vs : List (List SourceStmt)) → is_out_of_range (an_item (item.Event x t d vs)) ≡ false
+    → is_late (an_item (item.Event x t d vs)) ≡ false → length vs ≤ 4 → has_version (item.Event x t d vs) ≡ true → EventIs (event x t d (length vs)) (versions_numbers names n vs)
+event_is names n x t d vs range early few some =
+    let same : length (versions_numbers names n vs) ≡ length vs = numbers_length names n vs in
+    let parts = and_parts (has_timing_in_range t) (is_within 1 1000000 d) (not-false (has_timing_in_range t && is_within 1 1000000 d) range) in
+    let gap : spacing_of (timing_of t) ≡ least_gap t = same_spacing t in
+    let in_time : d ≤ least_gap t = ltb-false (least_gap t) d early in
+    record {
+      versions_are = sym same;
+      some = some_version names n x t d vs some;
+      few = omega (arith, same, few);
+      spaced = spaced_in t parts.0;
+      begins = begins_in t parts.0;
+      due = leb-true 1 d (and_parts (nat_le 1 d) (nat_le d 1000000) parts.1).0;
+      in_time = omega (arith, gap, in_time);
+    }
+
+item_declares : (names : Meanings) (n : ℕ) (i : Item) (headers : List Event) (events : List (List ℕ)) → is_out_of_range (an_item i) ≡ false → is_late (an_item i) ≡ false
+    → HasFewVersions i → has_version i ≡ true → EachEventIs headers events → EachEventIs (item_events i ++ headers) (item_versions names n i ++ events)
+item_declares names n (item.Int x minus k) headers events range early few some rest = rest
+item_declares names n (item.Bool x b) headers events range early few some rest = rest
+item_declares names n (item.Array x k) headers events range early few some rest = rest
+item_declares names n (item.Task x body) headers events range early few some rest = rest
+item_declares names n (item.Event x t d vs) headers events range early few some rest = (event_is names n x t d vs range early few some, rest)
+item_declares names n (item.Degrade xs) headers events range early few some rest = rest
+item_declares names n (item.Start x) headers events range early few some rest = rest
+
+all_declare : (names : Meanings) (n : ℕ) (items : List Item) → EachFails is_out_of_range items → EachFails is_late items
+    → AllHaveFewVersions items → all_have_versions items ≡ true → EachEventIs (events_in items) (versions_from names n items)
+all_declare names n [] range early few some = tt
+all_declare names n (i ∷ items) range early few some =
+    let both = and_parts (has_version i) (all_have_versions items) some in
+    let m = n + length (item_blocks names n i) in
+    item_declares names n i (events_in items) (versions_from names m items) range.0 early.0 few.0 both.0
+    (all_declare names m items range.1 early.1 few.1 both.1)
+
+pub declares : (tree : Tree) (p : Checked) → IsChecked tree → IsProgramOf tree p → EachEventIs p.headers p.events
+declares tree p checked of =
+    let range = each_fails is_out_of_range tree.items checked.0 in
+    let early = each_fails is_late tree.items checked.1.1.1.1.1.1.1.1.1.1.1.0 in
+    let all = all_declare (names_of tree.items) 0 tree.items range early (is_small tree checked).few_versions tree.versioned in
+    subst (λ (hs : List Event). EachEventIs hs p.events) (sym of.headers)
+    (subst (λ (es : List (List ℕ)). EachEventIs (events_in tree.items) es) (sym of.events) all)

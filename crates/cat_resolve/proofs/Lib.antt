@@ -10,5 +10,9 @@ pub mod Small
 pub mod Counted
 pub mod Numbers
 pub mod ByItem
-pub mod Standing
+pub mod Sorts
 pub mod LaidOut
+pub mod Differing
+pub mod Mentions
+pub mod Degrades
+pub mod HeaderWorks

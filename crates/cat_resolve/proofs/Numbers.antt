@@ -1,5 +1,5 @@
 -- The numbers of blocks: those that tasks and events name are numbers of blocks, and a statement names lower ones than its own.
-use Rattle.std.proofs.Common.{◌≡◌, ℕ, suc, ◌+◌, ◌<◌, ◌≤◌, min, List, [], ◌∷◌, ◌++◌, length, Option, Some, None, refl, ap, sym, ◌∙◌, subst, arith, length-append}
+use Rattle.std.proofs.Common.{◌≡◌, ℕ, suc, ◌+◌, ◌<◌, ◌≤◌, List, [], ◌∷◌, ◌++◌, length, Option, Some, None, ap, sym, subst, arith, length-append}
 use Rattle.std.specs.Prelude.{map}
 use Rattle.std.proofs.lemmas.List.{length-map}
 use Rattle.cn_base.specs.declared.tree.Stmt.{Stmt as SourceStmt}
@@ -14,9 +14,9 @@ use Rattle.cat_conditions.specs.Plain as plain
 use Rattle.cat_resolve.specs.declared.names.Meaning.{Meaning}
 use Rattle.cat_resolve.specs.declared.names.Meaning.TheVariants as meaning
 use Rattle.cat_resolve.specs.Names.{Meanings, names_of}
-use Rattle.cat_resolve.specs.Form.{Formula, Command, set, set_at, out, post, branch, loop, turns, command, commands}
+use Rattle.cat_resolve.specs.Form.{Formula, Command, branch, loop, turns, command, commands}
 use Rattle.cat_resolve.specs.Resolved.{formula_of}
-use Rattle.cat_resolve.specs.Blocks.{set_form, set_at_form, post_form, command_of, blocks_in, commands_of, blocks_within, else_number, else_blocks, block_blocks, block_number}
+use Rattle.cat_resolve.specs.Blocks.{set_form, set_at_form, post_form, command_of, blocks_in, commands_of, blocks_within, else_blocks, block_blocks, block_number}
 use Rattle.cat_resolve.specs.Content.{versions_blocks, versions_numbers, item_blocks, item_bodies, item_versions, blocks_from, bodies_from, versions_from}
 use Rattle.cat_resolve.specs.Program.{IsProgramOf}
 

@@ -9,7 +9,7 @@ mod expression;
 mod names;
 mod program;
 
-pub use program::{Parts, resolve};
+pub use program::resolve;
 
 #[cfg(test)]
 mod tests;

@@ -1,6 +1,6 @@
 -- What a name is declared as says what it stands for.
-use Rattle.std.proofs.Common.{◌≡◌, ℕ, ◌+◌, ◌<◌, ◌≤◌, Bool, true, false, cond, List, [], ◌∷◌, length, Option, Some, None, refl, ap, sym, ◌∙◌, subst, arith, ⊎_elim, inl, inr}
-use Rattle.std.specs.Prelude.{not, ◌&&◌, nat_le, bytes_eq, filter_map}
+use Rattle.std.proofs.Common.{◌≡◌, ℕ, ◌+◌, ◌<◌, ◌≤◌, true, false, cond, List, [], ◌∷◌, Option, Some, None, refl, sym, subst, arith, ⊎_elim}
+use Rattle.std.specs.Prelude.{not, nat_le, bytes_eq}
 use Rattle.std.specs.List.{cons_option}
 use Rattle.std.specs.Cmp.Lexicographic.{bytes_decides}
 use Rattle.std.proofs.lemmas.Bool.{cases_Bool, cond-true, cond-false, both_ways, false_from_ne_true, not-false, and_parts, leb-true}
@@ -8,7 +8,7 @@ use Rattle.cn_base.specs.declared.tree.Item.{Item}
 use Rattle.cn_base.specs.declared.tree.Item.TheVariants as item
 use Rattle.cat_conditions.specs.declared.sort.Sort.{Sort}
 use Rattle.cat_conditions.specs.declared.sort.Sort.TheVariants as sort
-use Rattle.cat_conditions.specs.Pieces.{Piece, an_item, a_statement, an_expression, items_pieces}
+use Rattle.cat_conditions.specs.Pieces.{an_item, a_statement, an_expression, items_pieces}
 use Rattle.cat_conditions.specs.Local.{is_within, is_out_of_range}
 use Rattle.cat_conditions.specs.Names.{Name, Declared, item_declaration, declaration, declarations, sort_of}
 use Rattle.cat_resolve.specs.declared.names.Meaning.{Meaning}
