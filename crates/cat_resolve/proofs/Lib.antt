@@ -16,3 +16,4 @@ pub mod Differing
 pub mod Mentions
 pub mod Degrades
 pub mod HeaderWorks
+pub mod IsProgram

@@ -6,9 +6,11 @@ mod blocks;
 mod bodies;
 mod declarations;
 mod expression;
+mod laws;
 mod names;
 mod program;
 
+pub use laws::checked_law;
 pub use program::resolve;
 
 #[cfg(test)]
