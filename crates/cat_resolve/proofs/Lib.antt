@@ -8,3 +8,6 @@ pub mod Built
 pub mod Together
 pub mod Small
 pub mod Counted
+pub mod Targets
+pub mod Measures
+pub mod Fine
