@@ -11,3 +11,5 @@ pub mod Counted
 pub mod Targets
 pub mod Measures
 pub mod Fine
+pub mod Standing
+pub mod BlocksAt
