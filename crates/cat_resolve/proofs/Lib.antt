@@ -13,3 +13,4 @@ pub mod Measures
 pub mod Fine
 pub mod Standing
 pub mod BlocksAt
+pub mod TreesStand
