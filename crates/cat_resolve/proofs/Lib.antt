@@ -14,3 +14,4 @@ pub mod Fine
 pub mod Standing
 pub mod BlocksAt
 pub mod TreesStand
+pub mod StandingCounts
