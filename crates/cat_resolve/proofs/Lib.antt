@@ -15,3 +15,5 @@ pub mod Standing
 pub mod BlocksAt
 pub mod TreesStand
 pub mod StandingCounts
+pub mod BodiesWork
+pub mod KnownNames
