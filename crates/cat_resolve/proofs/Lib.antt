@@ -17,3 +17,4 @@ pub mod TreesStand
 pub mod StandingCounts
 pub mod BodiesWork
 pub mod KnownNames
+pub mod Working

@@ -40,12 +40,12 @@ inner_of blocks d n within own others le at =
       later = after_at (commands blocks) (n + length within) own others next;
     }
 
-first_fits : (n d : ℕ) (one more : List (List Command)) → n + length (one ++ more) ≤ d → n + length one ≤ d
+pub first_fits : (n d : ℕ) (one more : List (List Command)) → n + length (one ++ more) ≤ d → n + length one ≤ d
 first_fits n d one more le =
     let l : length (one ++ more) ≡ length one + length more = length-append one more in
     omega (arith, l, le)
 
-rest_fits : (n d : ℕ) (one more : List (List Command)) → n + length (one ++ more) ≤ d → (n + length one) + length more ≤ d
+pub rest_fits : (n d : ℕ) (one more : List (List Command)) → n + length (one ++ more) ≤ d → (n + length one) + length more ≤ d
 rest_fits n d one more le =
     let l : length (one ++ more) ≡ length one + length more = length-append one more in
     omega (arith, l, le)
