@@ -1,22 +1,21 @@
 -- A tree that stands for a block of fine pieces works, where names are known.
-use Rattle.std.proofs.Common.{◌≡◌, ℕ, ◌+◌, ◌-◌, ◌<◌, ◌≤◌, Bool, true, false, List, [], ◌∷◌, ◌++◌, Option, refl, ap, sym, ◌∙◌, subst, arith}
-use Rattle.std.specs.Prelude.{max, min, not, ◌&&◌, nat_le, nat_lt}
+use Rattle.std.proofs.Common.{◌≡◌, ℕ, ◌+◌, ◌-◌, ◌<◌, ◌≤◌, Bool, true, false, [], ◌++◌, refl, sym, subst, arith}
+use Rattle.std.specs.Prelude.{max, not, ◌&&◌, nat_le, nat_lt}
 use Rattle.std.proofs.Math.Dec.{ltb}
 use Rattle.std.proofs.lemmas.Bool.{ltb-false, leb-true}
 use Rattle.cat_program.specs.declared.syntax.Expr.{Expr}
 use Rattle.cat_program.specs.Body.{Body}
-use Rattle.cat_program.specs.Checked.{expr_need, Reads, Works, IsFree, TestWorks, TaskWorks, EventWorks}
+use Rattle.cat_program.specs.Checked.{expr_need, Works, TestWorks, TaskWorks, EventWorks}
 use Rattle.cat_conditions.specs.declared.sort.ValueType.TheVariants as type
 use Rattle.cat_conditions.specs.Plain.{Term, Furthers, no_further, further, Actions, no_action, action, no_else, otherwise}
 use Rattle.cat_conditions.specs.Plain as plain
-use Rattle.cat_conditions.specs.Pieces.{an_item, a_statement, an_expression, further_terms, term_pieces, inner_pieces, block_pieces}
+use Rattle.cat_conditions.specs.Pieces.{further_terms, term_pieces, inner_pieces, block_pieces}
 use Rattle.cat_conditions.specs.Names.{Name, Sorts}
 use Rattle.cat_conditions.specs.Types.{is_plain, is_array, is_task, plain_type, type_of, agrees, is_of}
-use Rattle.cat_conditions.specs.Counts.{need, action_need}
-use Rattle.cat_resolve.specs.declared.names.Meaning.{Meaning}
+use Rattle.cat_conditions.specs.Counts.{need}
 use Rattle.cat_resolve.specs.Names.{Meanings}
-use Rattle.cat_resolve.specs.Form.{Formula, form}
-use Rattle.cat_resolve.specs.Resolved.{formula_of, operands_from, truth_form, name_form, element_form}
+use Rattle.cat_resolve.specs.Form.{form}
+use Rattle.cat_resolve.specs.Resolved.{formula_of, operands_from, truth_form}
 use Rattle.cat_resolve.proofs.Targets.{word_of, base_of, len_of, task_of, name_is, element_is}
 use Rattle.cat_resolve.proofs.Measures.{FormReads, OperandsRead, FormIsFree, OperandsAreFree, same_need, reads_as, free_as}
 use Rattle.cat_resolve.proofs.Fine.{AllFine, parts_fine}
@@ -127,9 +126,11 @@ module _ (sorts : Sorts) (names : Meanings) (words tasks : ℕ) (known : Knows s
       let parts = parts_fine sorts (term_pieces false i ++ term_pieces false t) (block_pieces false 32 rest) h.1 in
       let both = parts_fine sorts (term_pieces false i) (term_pieces false t) parts.0 in
       let fits : max (need i) (need t + 1) ≤ 32 = has_room 32 (max (need i) (need t + 1)) h.0.operands in
-      let there = known.array x (left_of_three (is_array (sorts x)) (is_of sorts type.Int i) (is_of sorts type.Int t) h.0.agrees) in
-      ((omega (arith, len_is, there.0), omega (arith, base_is, len_is, there.1), value_works false 0 i d f (omega (arith, fits)) both.0, value_works false 1 t e g (omega (arith, fits)) both.1),
-      (free_as names i d f (term_free sorts names i both.0), free_as names t e g (term_free sorts names t both.1)), task_works r parts.1)
+      let there = known.array x (left_of_three (is_array (sorts x)) (is_of sorts type.Int i) (is_of sorts type.Int t) h.0.agrees) in (
+        (omega (arith, len_is, there.0), omega (arith, base_is, len_is, there.1), value_works false 0 i d f (omega (arith, fits)) both.0, value_works false 1 t e g (omega (arith, fits)) both.1),
+        (free_as names i d f (term_free sorts names i both.0), free_as names t e g (term_free sorts names t both.1)),
+        task_works r parts.1,
+      )
   task_works (emits {t = t} {rest = rest} {e = e} f r) h =
       let parts = parts_fine sorts (term_pieces false t) (block_pieces false 32 rest) h.1 in
       let fits : need t ≤ 32 = has_room 32 (need t) h.0.operands in
@@ -167,9 +168,15 @@ module _ (sorts : Sorts) (names : Meanings) (words tasks : ℕ) (known : Knows s
       let parts = parts_fine sorts (term_pieces true i ++ term_pieces true t) (block_pieces true room rest) h.1 in
       let both = parts_fine sorts (term_pieces true i) (term_pieces true t) parts.0 in
       let fits : max (need i) (need t + 1) ≤ room = has_room room (max (need i) (need t + 1)) h.0.operands in
-      let there = known.array x (left_of_three (is_array (sorts x)) (is_of sorts type.Int i) (is_of sorts type.Int t) h.0.agrees) in
-      ((omega (arith, len_is, there.0), omega (arith, base_is, len_is, there.1), value_works true d i index f (omega (arith, fits, all)) both.0,
-      value_works true (d + 1) t e g (omega (arith, fits, all)) both.1), event_works r d room all parts.1)
+      let there = known.array x (left_of_three (is_array (sorts x)) (is_of sorts type.Int i) (is_of sorts type.Int t) h.0.agrees) in (
+        (
+          omega (arith, len_is, there.0),
+          omega (arith, base_is, len_is, there.1),
+          value_works true d i index f (omega (arith, fits, all)) both.0,
+          value_works true (d + 1) t e g (omega (arith, fits, all)) both.1,
+        ),
+        event_works r d room all parts.1,
+      )
   event_works (emits {t = t} {rest = rest} {e = e} f r) d room all h =
       let parts = parts_fine sorts (term_pieces true t) (block_pieces true room rest) h.1 in
       let fits : need t ≤ room = has_room room (need t) h.0.operands in

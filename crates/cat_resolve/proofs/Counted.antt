@@ -1,5 +1,5 @@
 -- The counts of a program's parts, and where its variables stand.
-use Rattle.std.proofs.Common.{◌≡◌, ℕ, ◌+◌, ◌≤◌, Bool, true, false, List, [], ◌∷◌, ◌++◌, length, Option, Some, None, refl, ap, sym, ◌∙◌, subst, arith, length-append}
+use Rattle.std.proofs.Common.{◌≡◌, ℕ, ◌+◌, ◌≤◌, List, [], ◌∷◌, ◌++◌, length, Option, Some, None, refl, ap, sym, ◌∙◌, arith, length-append}
 use Rattle.std.specs.Prelude.{replicate}
 use Rattle.std.proofs.lemmas.List.{length-replicate, length-set}
 use Rattle.cn_base.specs.declared.tree.Item.{Item}
@@ -10,7 +10,7 @@ use Rattle.cat_conditions.specs.Conditions.{IsChecked}
 use Rattle.cat_resolve.specs.declared.names.Meaning.{Meaning}
 use Rattle.cat_resolve.specs.declared.names.Meaning.TheVariants as meaning
 use Rattle.cat_resolve.specs.Names.{Meanings, names_of, words_of, tasks_of, events_of}
-use Rattle.cat_resolve.specs.Header.{item_words, words_in, item_tasks, tasks_in, item_events, events_in, word_count, task_count, event_count, IsSmall}
+use Rattle.cat_resolve.specs.Header.{item_words, words_in, item_tasks, tasks_in, word_count, task_count, event_count}
 use Rattle.cat_resolve.specs.Content.{item_blocks, item_bodies, bodies_from, item_versions, versions_from, posted, item_started, started_from}
 use Rattle.cat_resolve.specs.Program.{IsProgramOf}
 use Rattle.cat_resolve.proofs.Small.{is_small}

@@ -1,5 +1,5 @@
 -- The pieces of a source that meets the conditions: none offends by itself.
-use Rattle.std.proofs.Common.{◌≡◌, ℕ, zero, suc, ◌+◌, ◌<◌, ◌≤◌, Bool, true, false, List, [], ◌∷◌, ◌++◌, length, refl, arith}
+use Rattle.std.proofs.Common.{◌≡◌, suc, Bool, false, List, [], ◌∷◌, ◌++◌, length, arith}
 use Rattle.std.proofs.lemmas.Bool.{false_from_ne_true}
 use Rattle.cat_conditions.specs.Pieces.{Piece}
 use Rattle.cat_conditions.specs.Offences.{At, NoneOf}
@@ -40,6 +40,7 @@ all_pass test (p ∷ ps) h =
 pub all_fine : (sorts : Sorts) (ps : List Piece) → AllPass is_out_of_range ps → AllPass (has_wrong_type sorts) ps → AllPass is_event_loop ps → AllPass is_task_turns ps
     → AllPass is_task_payload ps → AllPass needs_too_many ps → AllPass runs_too_long ps → AllFine sorts ps
 all_fine sorts [] a b c d e f g = tt
-all_fine sorts (p ∷ ps) a b c d e f g =
-    (record { in_range = a.0; agrees = b.0; no_loop = c.0; no_turns = d.0; no_payload = e.0; operands = f.0; short = g.0 },
-    all_fine sorts ps a.1 b.1 c.1 d.1 e.1 f.1 g.1)
+all_fine sorts (p ∷ ps) a b c d e f g = (
+  record { in_range = a.0; agrees = b.0; no_loop = c.0; no_turns = d.0; no_payload = e.0; operands = f.0; short = g.0 },
+  all_fine sorts ps a.1 b.1 c.1 d.1 e.1 f.1 g.1,
+)

@@ -1,6 +1,6 @@
 -- Each name of a fine source stands for what it is declared as.
 use Rattle.std.proofs.Common.{◌≡◌, ℕ, ◌+◌, ◌<◌, ◌≤◌, Bool, true, false, cond, List, [], ◌∷◌, ◌++◌, Option, Some, None, refl, ap, sym, ◌∙◌, subst, arith}
-use Rattle.std.specs.Prelude.{not, ◌&&◌, nat_le, bytes_eq, filter_map}
+use Rattle.std.specs.Prelude.{not, ◌&&◌, nat_le, bytes_eq}
 use Rattle.std.specs.List.{cons_option}
 use Rattle.std.specs.Bool.{one_answer}
 use Rattle.std.proofs.lemmas.Bool.{leb-true}
@@ -12,13 +12,12 @@ use Rattle.cn_base.specs.declared.tree.Stmt.{Stmt}
 use Rattle.cat_conditions.specs.declared.sort.Sort.{Sort}
 use Rattle.cat_conditions.specs.declared.sort.Sort.TheVariants as sort
 use Rattle.cat_conditions.specs.Plain.{Term, number, truth, payload, variable, element, signed, chain, compare, Furthers, no_further, further, Action, set, set_at, out, post, choose, loop, turns, Actions, no_action, action, Else, no_else, otherwise, block_of}
-use Rattle.cat_conditions.specs.Pieces.{Piece, an_item, a_statement, an_expression, inner_terms, further_terms, term_pieces, inner_pieces, block_pieces, else_pieces, versions_pieces, item_pieces, items_pieces}
-use Rattle.cat_conditions.specs.Local.{is_within}
+use Rattle.cat_conditions.specs.Pieces.{Piece, inner_terms, further_terms, term_pieces, inner_pieces, block_pieces, else_pieces, versions_pieces, item_pieces, items_pieces}
 use Rattle.cat_conditions.specs.Names.{Name, Sorts, Declared, declaration, item_declaration, declarations, sort_of}
 use Rattle.cat_conditions.specs.Types.{is_plain, is_array, is_task}
 use Rattle.cat_resolve.specs.declared.names.Meaning.{Meaning}
 use Rattle.cat_resolve.specs.declared.names.Meaning.TheVariants as meaning
-use Rattle.cat_resolve.specs.Names.{Meanings, first_of, of_name, words_of, tasks_of, events_of, declared_by, names_from, names_of}
+use Rattle.cat_resolve.specs.Names.{first_of, of_name, words_of, tasks_of, events_of, declared_by, names_from, names_of}
 use Rattle.cat_resolve.specs.Header.{word_count, task_count}
 use Rattle.cat_resolve.proofs.Targets.{word_of, base_of, len_of, task_of}
 use Rattle.cat_resolve.proofs.Fine.{AllFine, parts_fine}

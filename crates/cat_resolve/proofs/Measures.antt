@@ -1,17 +1,16 @@
 -- What an expression needs, weighs and reads, by its plain form.
 use Rattle.std.proofs.Common.{◌≡◌, ℕ, ◌+◌, ◌<◌, ◌≤◌, Bool, true, false, refl, ap, sym, ◌∙◌, subst, arith}
-use Rattle.std.specs.Prelude.{max, Option}
+use Rattle.std.specs.Prelude.{max}
 use Rattle.cat_program.specs.declared.syntax.Expr.{Expr, Number, Payload, Word, Element', Signed', Chain', Row_of-Further, end_of-Further, more_of-Further}
 use Rattle.cat_program.specs.Places.{expr_size, chain_size}
 use Rattle.cat_program.specs.Checked.{expr_need, chain_need, Reads, ChainReads, IsFree, ChainIsFree}
 use Rattle.cat_conditions.specs.Plain.{Term, Furthers, no_further, further}
 use Rattle.cat_conditions.specs.Plain as plain
 use Rattle.cat_conditions.specs.Counts.{need, further_need, size, further_size}
-use Rattle.cat_resolve.specs.declared.names.Meaning.{Meaning}
 use Rattle.cat_resolve.specs.Names.{Meanings}
 use Rattle.cat_resolve.specs.Form.{Formula, number, payload, word, element, signed, chain, Operands, no_operand, operand, form, operands}
-use Rattle.cat_resolve.specs.Resolved.{formula_of, operands_from, truth_form, name_form, element_form}
-use Rattle.cat_resolve.proofs.Targets.{word_of, base_of, len_of, name_is, element_is}
+use Rattle.cat_resolve.specs.Resolved.{formula_of, operands_from, truth_form}
+use Rattle.cat_resolve.proofs.Targets.{name_is, element_is}
 
 -- ---- of plain forms
 

@@ -1,5 +1,5 @@
 -- When a tree of a program stands for a block of a source: the same statements with what their names stand for.
-use Rattle.std.proofs.Common.{◌≡◌, ℕ, List, Option, Some, None, sym, subst}
+use Rattle.std.proofs.Common.{◌≡◌, ℕ, List, Some, None, subst}
 use Rattle.std.specs.Prelude.{min}
 use Rattle.cat_program.specs.declared.syntax.Expr.{Expr}
 use Rattle.cat_program.specs.declared.syntax.Stmt.{Stmt}
@@ -8,7 +8,7 @@ use Rattle.cat_program.specs.Body.{Body, SetWord, SetElement, Emit, Raise, Empty
 use Rattle.cat_conditions.specs.Plain.{Term, Actions, no_action, action, no_else, otherwise}
 use Rattle.cat_conditions.specs.Plain as plain
 use Rattle.cat_resolve.specs.Names.{Meanings}
-use Rattle.cat_resolve.specs.Form.{Formula, form, command, set, set_at, out, post, branch, loop, turns}
+use Rattle.cat_resolve.specs.Form.{form, command, set, set_at, out, post, branch, loop, turns}
 use Rattle.cat_resolve.specs.Resolved.{formula_of}
 use Rattle.cat_resolve.proofs.Targets.{word_of, base_of, len_of, task_of}
 

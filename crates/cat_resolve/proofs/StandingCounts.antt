@@ -1,11 +1,11 @@
 -- What is counted of a tree, by the block of the source that it stands for.
-use Rattle.std.proofs.Common.{◌≡◌, ℕ, ◌+◌, ◌*◌, ◌<◌, ◌≤◌, List, [], ◌∷◌, Option, Some, None, refl, ap, sym, ◌∙◌, subst, arith}
-use Rattle.std.specs.Prelude.{max, min, map, option_map}
+use Rattle.std.proofs.Common.{◌≡◌, ℕ, ◌+◌, ◌*◌, ◌≤◌, List, [], ◌∷◌, Some, None, refl, ap, sym, ◌∙◌, subst, arith}
+use Rattle.std.specs.Prelude.{max, map}
 use Rattle.std.proofs.lemmas.Nat.{mul-le}
 use Rattle.cn_base.specs.declared.tree.Stmt.{Stmt, ind-Stmt, map-Stmt, roll-Stmt}
 use Rattle.cn_base.specs.declared.tree.Stmt.TheVariants as stmt
 use Rattle.cn_base.specs.declared.tree.Stmt.TheOpen.{Stmt-F}
-use Rattle.cn_base.specs.Nests.{most, nest, block_nest}
+use Rattle.cn_base.specs.Nests.{nest, block_nest}
 use Rattle.cn_base.proofs.NestLaws.{nest-set, nest-set_at, nest-out, nest-post, nest-if-none, nest-if-some, nest-while, nest-repeat}
 use Rattle.cat_program.specs.Body.{Body}
 use Rattle.cat_program.specs.Places.{expr_size, body_size}

@@ -1,8 +1,8 @@
 -- The tree of a block of the program stands for the block of the source that it is.
-use Rattle.std.proofs.Common.{◌≡◌, ℕ, zero, suc, ◌+◌, ◌<◌, ◌≤◌, List, [], ◌∷◌, ◌++◌, length, Some, None, refl, ap, sym, ◌∙◌, subst, arith, length-append}
+use Rattle.std.proofs.Common.{◌≡◌, ℕ, zero, suc, ◌+◌, ◌<◌, ◌≤◌, List, [], ◌∷◌, ◌++◌, length, ◌∙◌, arith, length-append}
 use Rattle.std.specs.Prelude.{map}
 use Rattle.cat_program.specs.declared.syntax.Stmt.{Stmt}
-use Rattle.cat_program.specs.Body.{Body, with_stmts, block_at, tree_to, tree_of}
+use Rattle.cat_program.specs.Body.{with_stmts, block_at, tree_to, tree_of}
 use Rattle.cat_conditions.specs.Plain.{Term, Actions, no_action, action, no_else, otherwise}
 use Rattle.cat_conditions.specs.Plain as plain
 use Rattle.cat_resolve.specs.Names.{Meanings}

@@ -1,6 +1,6 @@
 -- The bodies of the program of a source that meets the conditions work.
-use Rattle.std.proofs.Common.{◌≡◌, ℕ, ◌+◌, ◌<◌, ◌≤◌, Bool, true, false, List, [], ◌∷◌, ◌++◌, length, refl, ap, sym, ◌∙◌, subst, arith}
-use Rattle.std.specs.Prelude.{map, max, ◌||◌, nat_lt, sum_by}
+use Rattle.std.proofs.Common.{◌≡◌, ℕ, ◌+◌, ◌≤◌, Bool, true, false, List, [], ◌∷◌, ◌++◌, length, refl, ap, sym, ◌∙◌, subst, arith}
+use Rattle.std.specs.Prelude.{map, ◌||◌, nat_lt, sum_by}
 use Rattle.std.specs.List.{list_any}
 use Rattle.std.proofs.lemmas.Bool.{ltb-false}
 use Rattle.std.proofs.lemmas.List.{map-append, length-map}
@@ -14,7 +14,7 @@ use Rattle.cat_program.specs.Body.{Body, tree_of}
 use Rattle.cat_program.specs.Places.{body_size, tasks_size, versions_size, events_size}
 use Rattle.cat_program.specs.Checked.{Checked, bodies_of, versions_of, depth_of, most_steps, EachShallow, EachTaskWorks, EachVersionWorks, EachEventWorks}
 use Rattle.cat_conditions.specs.Plain.{block_of}
-use Rattle.cat_conditions.specs.Pieces.{Piece, an_item, block_pieces, versions_pieces, item_pieces, items_pieces, pieces}
+use Rattle.cat_conditions.specs.Pieces.{an_item, block_pieces, versions_pieces, item_pieces, items_pieces, pieces}
 use Rattle.cat_conditions.specs.Local.{is_out_of_range, is_event_loop, is_task_turns, is_task_payload}
 use Rattle.cat_conditions.specs.Names.{Sorts, declarations, sort_of}
 use Rattle.cat_conditions.specs.Types.{has_wrong_type}
@@ -23,7 +23,7 @@ use Rattle.cat_conditions.specs.Counts as counts
 use Rattle.cat_conditions.specs.Conditions.{IsChecked}
 use Rattle.cat_resolve.specs.Names.{Meanings, names_of}
 use Rattle.cat_resolve.specs.Form.{commands}
-use Rattle.cat_resolve.specs.Header.{words_in, word_count, task_count}
+use Rattle.cat_resolve.specs.Header.{word_count, task_count}
 use Rattle.cat_resolve.specs.Blocks.{block_blocks, block_number}
 use Rattle.cat_resolve.specs.Content.{versions_blocks, versions_numbers, item_blocks, blocks_from, item_bodies, bodies_from, item_versions, versions_from}
 use Rattle.cat_resolve.specs.Program.{IsProgramOf}
