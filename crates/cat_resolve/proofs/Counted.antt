@@ -58,7 +58,7 @@ item_bodies_length names k (item.Event x t d vs) = refl
 item_bodies_length names k (item.Degrade xs) = refl
 item_bodies_length names k (item.Start x) = refl
 
-bodies_length : (names : Meanings) (n : ℕ) (items : List Item) → length (bodies_from names n items) ≡ task_count items
+pub bodies_length : (names : Meanings) (n : ℕ) (items : List Item) → length (bodies_from names n items) ≡ task_count items
 bodies_length names n [] = refl
 bodies_length names n (i ∷ items) =
     let more = bodies_from names (n + length (item_blocks names n i)) items in

@@ -17,3 +17,13 @@ pub mod Mentions
 pub mod Degrades
 pub mod HeaderWorks
 pub mod IsProgram
+pub mod Targets
+pub mod Measures
+pub mod Fine
+pub mod Standing
+pub mod BlocksAt
+pub mod TreesStand
+pub mod StandingCounts
+pub mod BodiesWork
+pub mod KnownNames
+pub mod Working
