@@ -1,5 +1,5 @@
 -- A source that meets the conditions is small, and has few blocks.
-use Rattle.std.proofs.Common.{◌≡◌, ℕ, suc, zero, ◌+◌, ◌<◌, ◌≤◌, ◌^◌, Bool, true, false, List, [], ◌∷◌, ◌++◌, length, refl, ap, sym, ◌∙◌, subst, arith, length-append, take, inl, inr}
+use Rattle.std.proofs.Common.{◌≡◌, ℕ, suc, ◌+◌, ◌<◌, ◌≤◌, ◌^◌, Bool, true, false, List, [], ◌∷◌, ◌++◌, length, refl, subst, arith, length-append, take, inl, inr}
 use Rattle.std.specs.Prelude.{sum_by}
 use Rattle.std.proofs.lemmas.List.Sums.{sum_by-append, sum_by-cons}
 use Rattle.std.proofs.Math.Seq.{take-length}
@@ -22,7 +22,7 @@ use Rattle.cat_resolve.specs.Blocks.{blocks_in, blocks_within, else_blocks, comm
 use Rattle.cat_resolve.specs.Content.{versions_blocks, item_blocks, blocks_from}
 
 -- a weight that items alone have
-record OfItems (w : Piece → ℕ) : Type 0 where
+pub record OfItems (w : Piece → ℕ) : Type 0 where
   pub statement : (event : Bool) (room : ℕ) (a : Action) → w (a_statement event room a) ≡ 0
   pub expression : (event : Bool) (t : Term) → w (an_expression event t) ≡ 0
 
@@ -100,7 +100,7 @@ item_none w o (item.Degrade xs) = nothing w
 item_none w o (item.Start x) = nothing w
 
 -- so one item more weighs what it weighs itself
-one_item : (w : Piece → ℕ) → OfItems w → (i : Item) (items : List Item) → sum_by w (items_pieces (i ∷ items)) ≡ w (an_item i) + sum_by w (items_pieces items)
+pub one_item : (w : Piece → ℕ) → OfItems w → (i : Item) (items : List Item) → sum_by w (items_pieces (i ∷ items)) ≡ w (an_item i) + sum_by w (items_pieces items)
 one_item w o i items =
     let a : sum_by w (items_pieces (i ∷ items)) ≡ w (an_item i) + sum_by w (item_pieces i ++ items_pieces items) = sum_by-cons w (an_item i) (item_pieces i ++ items_pieces items) in
     let b : sum_by w (item_pieces i ++ items_pieces items) ≡ sum_by w (item_pieces i) + sum_by w (items_pieces items) = sum_by-append w (item_pieces i) (items_pieces items) in
@@ -116,10 +116,10 @@ of_tasks = record { statement = λ event room a. refl; expression = λ event t. 
 of_events : OfItems one_event
 of_events = record { statement = λ event room a. refl; expression = λ event t. refl }
 
-of_task_size : OfItems task_size
+pub of_task_size : OfItems task_size
 of_task_size = record { statement = λ event room a. refl; expression = λ event t. refl }
 
-of_event_size : OfItems event_size
+pub of_event_size : OfItems event_size
 of_event_size = record { statement = λ event room a. refl; expression = λ event t. refl }
 
 same_words : (i : Item) → words_of i ≡ words (an_item i)
@@ -271,7 +271,7 @@ within w limit (p ∷ ps) h =
     let no = subst (λ l. ¬ (limit < sum_by w l)) (all_taken p ps) (h (length ps) (last p ps)) in
     omega (arith, no)
 
-short : (ps : List Piece) → NoneOf (length ps) (MakesCodeLong ps) → sum_by task_size ps + sum_by event_size ps ≤ 60000
+pub short : (ps : List Piece) → NoneOf (length ps) (MakesCodeLong ps) → sum_by task_size ps + sum_by event_size ps ≤ 60000
 short [] h = omega arith
 short (p ∷ ps) h =
     let all = p ∷ ps in
