@@ -1,0 +1,8 @@
+//! The greatest units and ticks of the sections, the handlers and the checkpoints of a program's code.
+#![tactic(auto)]
+
+mod job;
+mod total;
+
+pub use job::{Bounds, Job};
+pub use total::bounds;
