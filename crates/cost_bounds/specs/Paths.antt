@@ -38,25 +38,33 @@ pub record IsSection (p : Checked) (path : List ℕ) : Type 0 where
 
 -- ---- handlers
 
+abbrev pub is_turn : Option Instr → Bool
+is_turn (Some (Turn to)) = true
+is_turn _ = false
+
 -- A push just before a turn opens a repeat with this many turns. What is open is listed from the innermost repeat on.
-abbrev pub opened : Instr → Option Instr → List ℕ → List ℕ
-opened (Push (pos n)) (Some (Turn to)) left = n ∷ left
+abbrev pub opened : Bool → Instr → List ℕ → List ℕ
+opened true (Push (pos n)) left = n ∷ left
 opened _ _ left = left
 
 -- Where an instruction leads from a place with these turns left: a test goes either way, and a repeat makes all its turns.
-abbrev pub LeadsTo : Instr → Option Instr → ℕ → List ℕ → ℕ → List ℕ → Type 0
-LeadsTo (Jump to) following pc left next later = (next ≡ to) × (later ≡ left)
-LeadsTo (JumpZero to) following pc left next later = ((next ≡ to) ⊎ (next ≡ pc + 1)) × (later ≡ left)
-LeadsTo (Turn to) following pc [] next later = ⊥
-LeadsTo (Turn to) following pc (zero ∷ left) next later = (next ≡ to) × (later ≡ left)
-LeadsTo (Turn to) following pc (suc n ∷ left) next later = (next ≡ pc + 1) × (later ≡ n ∷ left)
-LeadsTo End following pc left next later = ⊥
-LeadsTo i following pc left next later = (next ≡ pc + 1) × (later ≡ opened i following left)
+abbrev pub LeadsTo : (before_turn : Bool) → Instr → ℕ → List ℕ → ℕ → List ℕ → Type 0
+LeadsTo before_turn (Jump to) pc left next later = (next ≡ to) × (later ≡ left)
+LeadsTo before_turn (JumpZero to) pc left next later = ((next ≡ to) ⊎ (next ≡ pc + 1)) × (later ≡ left)
+LeadsTo before_turn (Turn to) pc [] next later = ⊥
+LeadsTo before_turn (Turn to) pc (zero ∷ left) next later = (next ≡ to) × (later ≡ left)
+LeadsTo before_turn (Turn to) pc (suc n ∷ left) next later = (next ≡ pc + 1) × (later ≡ n ∷ left)
+LeadsTo before_turn End pc left next later = ⊥
+LeadsTo before_turn i pc left next later = (next ≡ pc + 1) × (later ≡ opened before_turn i left)
+
+-- the instruction after a place is a turn
+abbrev pub turn_follows : CodeValue → ℕ → Bool
+turn_follows code pc = is_turn (slice_get code.instrs (pc + 1))
 
 -- from a place on, with these turns left, up to and including the end
 pub data HandlerFrom (code : CodeValue) : ℕ → List ℕ → List ℕ → Type 0 where
   Ends : {pc : ℕ} {left : List ℕ} → slice_get code.instrs pc ≡ Some End → HandlerFrom code pc left (pc ∷ [])
-  LeadsOn : {pc next : ℕ} {left later path : List ℕ} → (i : Instr) → slice_get code.instrs pc ≡ Some i → LeadsTo i (slice_get code.instrs (pc + 1)) pc left next later → HandlerFrom code next later path → HandlerFrom code pc left (pc ∷ path)
+  LeadsOn : {pc next : ℕ} {left later path : List ℕ} → (i : Instr) → slice_get code.instrs pc ≡ Some i → LeadsTo (turn_follows code pc) i pc left next later → HandlerFrom code next later path → HandlerFrom code pc left (pc ∷ path)
 
 -- a handler from the entry of a version, where no repeat is open
 pub record IsHandler (p : Checked) (event version : ℕ) (path : List ℕ) : Type 0 where
