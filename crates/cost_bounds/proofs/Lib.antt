@@ -1,1 +1,2 @@
 pub mod TaskPaths
+pub mod HandlerPaths
