@@ -141,6 +141,11 @@ module _ (u : Costs) (code : CodeValue) where
       let r = plain.only pc left s.next s.later (subst (λ b. LeadsTo b x pc left s.next s.later) none s.leads) in
       comes_by x pc (pc + 1) left path e s r.0 r.1
 
+  -- no turn stands behind what is worked out and goes on
+  next_no_turn : (xs : List Instr) (x : Instr) (at k : ℕ) → HasAt code.instrs (at + 1) xs → AllWorkOut xs → length xs ≡ k → slice_get code.instrs (at + 1 + k) ≡ Some x → is_turn (Some x) ≡ false → turn_follows code at ≡ false
+  next_no_turn [] x at k has all long e none = let here : at + 1 ≡ at + 1 + k = omega (arith, long) in ap is_turn (ap (λ j. slice_get code.instrs j) here ∙ e) ∙ none
+  next_no_turn (z ∷ xs) x at k has all long e none = ap is_turn has.0 ∙ works_no_turn z all.0
+
   -- what is worked out, where no turn follows
   worked_comes : (xs : List Instr) (x : Instr) (at n : ℕ) (left path : List ℕ) → HasAt code.instrs at xs → AllWorkOut xs → length xs ≡ n → slice_get code.instrs (at + n) ≡ Some x → is_turn (Some x) ≡ false → HandlerFrom code at left path → Comes (at + n) left path (code_cost u xs)
   worked_comes [] x at n left path has all long e none h =
@@ -153,10 +158,6 @@ module _ (u : Costs) (code : CodeValue) where
       let first = plain_comes y at left path has.0 (works_plain y all.0) (next_no_turn xs x at k has.1 all.1 refl e' none) h in
       comes_as (at + 1 + k) (at + n) left path (u (class_of y) + code_cost u xs) (code_cost u (y ∷ xs)) place (omega arith)
         (comes_on (at + 1) (at + 1 + k) left path (u (class_of y)) (code_cost u xs) first (worked_comes xs x (at + 1) k left first.rest has.1 all.1 refl e' none first.is))
-    where
-      next_no_turn : (xs : List Instr) (x : Instr) (at k : ℕ) → HasAt code.instrs (at + 1) xs → AllWorkOut xs → length xs ≡ k → slice_get code.instrs (at + 1 + k) ≡ Some x → is_turn (Some x) ≡ false → turn_follows code at ≡ false
-      next_no_turn [] x at k has all long e none = let here : at + 1 ≡ at + 1 + k = omega (arith, long) in ap is_turn (ap (λ j. slice_get code.instrs j) here ∙ e) ∙ none
-      next_no_turn (z ∷ xs) x at k has all long e none = ap is_turn has.0 ∙ works_no_turn z all.0
 
   simple_comes : (s : Simple) (at : ℕ) (left path : List ℕ) → HasAt code.instrs at (operands_code s) → slice_get code.instrs (at + operands_size s) ≡ Some (simple_instr s) → HandlerFrom code at left path → Comes (at + operands_size s + 1) left path (simple_cost u s)
   simple_comes s at left path has e h =
@@ -288,3 +289,129 @@ module _ (u : Costs) (code : CodeValue) where
         let last : end + body_size rest ≡ at + (2 + body_size body + 1 + body_size rest) = omega arith in
         let sum = step_sum (i.Push (pos n)) at left path s has.0 in
         record { rest = others.rest; is = subst (λ z. HandlerFrom code z left others.rest) last others.is; sums = omega (arith, sum, turns.sums, others.sums) }
+
+  -- ---- some path sums to as much
+
+  -- a path from a place, which sums to m more than what it ends with
+  pub record Made (pc : ℕ) (left rest : List ℕ) (m : ℕ) : Type 0 where
+    pub path : List ℕ
+    pub is : HandlerFrom code pc left path
+    pub sums : Sum path ≡ m + Sum rest
+
+  made_on : (pc : ℕ) (left rest : List ℕ) (m n k : ℕ) (b : Made pc left rest n) (p : List ℕ) → Sum rest ≡ m + Sum p → k ≡ n + m → Made pc left p k
+  made_on pc left rest m n k b p e d = record { path = b.path; is = b.is; sums = omega (arith, b.sums, e, d) }
+
+  -- one instruction before a path
+  made_by : (x : Instr) (pc next : ℕ) (left later rest : List ℕ) → slice_get code.instrs pc ≡ Some x → LeadsTo (turn_follows code pc) x pc left next later → HandlerFrom code next later rest → Made pc left rest (u (class_of x))
+  made_by x pc next left later rest e leads h = record { path = pc ∷ rest; is = LeadsOn x e leads h; sums = ap (λ c. c + Sum rest) (ap (instr_cost u) e) }
+
+  worked_made : (xs : List Instr) (x : Instr) (at n : ℕ) (left rest : List ℕ) → HasAt code.instrs at xs → AllWorkOut xs → length xs ≡ n → slice_get code.instrs (at + n) ≡ Some x → is_turn (Some x) ≡ false → HandlerFrom code (at + n) left rest → Made at left rest (code_cost u xs)
+  worked_made [] x at n left rest has all long e none h =
+      let here : at + n ≡ at = omega (arith, long) in
+      record { path = rest; is = subst (λ z. HandlerFrom code z left rest) here h; sums = omega arith }
+  worked_made (y ∷ xs) x at n left rest has all long e none h =
+      let k = length xs in
+      let place : at + 1 + k ≡ at + n = omega (arith, long) in
+      let e' = ap (λ j. slice_get code.instrs j) place ∙ e in
+      let others = worked_made xs x (at + 1) k left rest has.1 all.1 refl e' none (subst (λ z. HandlerFrom code z left rest) (sym place) h) in
+      let leads = subst (λ b. LeadsTo b y at left (at + 1) left) (sym (next_no_turn xs x at k has.1 all.1 refl e' none)) ((works_plain y all.0).leads at left) in
+      let first = made_by y at (at + 1) left left others.path has.0 leads others.is in
+      made_on at left others.path (code_cost u xs) (u (class_of y)) (code_cost u (y ∷ xs)) first rest others.sums refl
+
+  simple_made : (s : Simple) (at : ℕ) (left rest : List ℕ) → HasAt code.instrs at (operands_code s) → slice_get code.instrs (at + operands_size s) ≡ Some (simple_instr s) → HandlerFrom code (at + operands_size s + 1) left rest → Made at left rest (simple_cost u s)
+  simple_made s at left rest has e h =
+      let n = operands_size s in
+      let last = made_by (simple_instr s) (at + n) (at + n + 1) left left rest e ((simple_plain (turn_follows code (at + n)) s).leads (at + n) left) h in
+      let first = worked_made (operands_code s) (simple_instr s) at n left last.path has (operands_work_out s) (operands_length s) e (simple_no_turn s) last.is in
+      made_on at left last.path (u (class_of (simple_instr s))) (code_cost u (operands_code s)) (simple_cost u s) first rest last.sums refl
+
+  test_made : (e : Expr) (to at next : ℕ) (left rest : List ℕ) → HasAt code.instrs at (expr_code e) → slice_get code.instrs (at + expr_size e) ≡ Some (i.JumpZero to) → ((next ≡ to) ⊎ (next ≡ at + expr_size e + 1)) → HandlerFrom code next left rest → Made at left rest (test_cost u e)
+  test_made e to at next left rest has d way h =
+      let n = expr_size e in
+      let last = made_by (i.JumpZero to) (at + n) next left left rest d (way, refl) h in
+      let first = worked_made (expr_code e) (i.JumpZero to) at n left last.path has (expr_works_out e) (expr_length e) d refl last.is in
+      made_on at left last.path (u Basic) (code_cost u (expr_code e)) (test_cost u e) first rest last.sums refl
+
+  turns_made : (body : Body) (at m n : ℕ) (left rest : List ℕ) → slice_get code.instrs at ≡ Some (i.Turn (at + 1 + body_size body + 1)) → slice_get code.instrs (at + 1 + body_size body) ≡ Some (i.Jump at)
+      → ((more p : List ℕ) → HandlerFrom code (at + 1 + body_size body) more p → Made (at + 1) more p m)
+      → HandlerFrom code (at + 1 + body_size body + 1) left rest → Made at (n ∷ left) rest (n * (u Basic + m + u Basic) + u Basic)
+  turns_made body at m zero left rest t j within h =
+      let end = at + 1 + body_size body + 1 in
+      let one = made_by (i.Turn end) at end (0 ∷ left) left rest t (refl, refl) h in
+      record { path = one.path; is = one.is; sums = omega (arith, one.sums) }
+  turns_made body at m (suc n) left rest t j within h =
+      let jump = at + 1 + body_size body in
+      let others = turns_made body at m n left rest t j within h in
+      let back = made_by (i.Jump at) jump at (n ∷ left) (n ∷ left) others.path j (refl, refl) others.is in
+      let once = within (n ∷ left) back.path back.is in
+      let first = made_by (i.Turn (jump + 1)) at (at + 1) (suc n ∷ left) (n ∷ left) once.path t (refl, refl) once.is in
+      record { path = first.path; is = first.is; sums = omega (arith, first.sums, once.sums, back.sums, others.sums, one_more (u Basic + m + u Basic) n) }
+    where
+      one_more : (k n : ℕ) → suc n * k ≡ k + n * k
+      one_more k n = omega arith
+
+  module _ (words posts : ℕ) where
+    body_made : (body : Body) (d at : ℕ) (left rest : List ℕ) → HasAt code.instrs at (body_code at body) → EventWorks words posts d body → HandlerFrom code (at + body_size body) left rest → Made at left rest (handler_most u body)
+    body_made Empty d at left rest has works h =
+        let here : at + 0 ≡ at = omega arith in
+        record { path = rest; is = subst (λ z. HandlerFrom code z left rest) here h; sums = omega arith }
+    body_made (Plain b p simple more) d at left rest has works h =
+        let n = operands_size simple in
+        let after = has_rest code.instrs at (at + n) (operands_code simple) (simple_instr simple ∷ body_code (at + n + 1) more) (ap (λ j. at + j) (operands_length simple)) has in
+        let last : at + (n + 1 + body_size more) ≡ at + n + 1 + body_size more = omega arith in
+        let others = body_made more d (at + n + 1) left rest after.1 works.1 (subst (λ z. HandlerFrom code z left rest) last h) in
+        let first = simple_made simple at left others.path (has_front code.instrs at (operands_code simple) (simple_instr simple ∷ body_code (at + n + 1) more) has) after.0 others.is in
+        made_on at left others.path (handler_most u more) (simple_cost u simple) (simple_cost u simple + handler_most u more) first rest others.sums refl
+    body_made (When b p e on more) d at left rest has works h =
+        let first = at + expr_size e + 1 in
+        let end = first + body_size on in
+        let tail = body_code first on ++ body_code end more in
+        let after = has_rest code.instrs at (at + expr_size e) (expr_code e) (i.JumpZero end ∷ tail) (ap (λ j. at + j) (expr_length e)) has in
+        let more_at = has_rest code.instrs first end (body_code first on) (body_code end more) (ap (λ j. first + j) (body_length on first)) after.1 in
+        let last : at + (expr_size e + 1 + body_size on + body_size more) ≡ end + body_size more = omega arith in
+        let others = body_made more d end left rest more_at works.2 (subst (λ z. HandlerFrom code z left rest) last h) in
+        let within = body_made on d first left others.path (has_front code.instrs first (body_code first on) (body_code end more) after.1) works.1 others.is in
+        let test = test_made e end at first left within.path (has_front code.instrs at (expr_code e) (i.JumpZero end ∷ tail) has) after.0 (inr refl) within.is in
+        record { path = test.path; is = test.is; sums = omega (arith, test.sums, within.sums, others.sums) }
+    body_made (Choice b p e on off more) d at left rest has works h =
+        let first = at + expr_size e + 1 in
+        let jump = first + body_size on in
+        let second = jump + 1 in
+        let end = second + body_size off in
+        let tail = body_code second off ++ body_code end more in
+        let after = has_rest code.instrs at (at + expr_size e) (expr_code e) (i.JumpZero second ∷ (body_code first on ++ (i.Jump end ∷ tail))) (ap (λ j. at + j) (expr_length e)) has in
+        let jump_at = has_rest code.instrs first jump (body_code first on) (i.Jump end ∷ tail) (ap (λ j. first + j) (body_length on first)) after.1 in
+        let more_at = has_rest code.instrs second end (body_code second off) (body_code end more) (ap (λ j. second + j) (body_length off second)) jump_at.1 in
+        let last : at + (expr_size e + 1 + body_size on + 1 + body_size off + body_size more) ≡ end + body_size more = omega arith in
+        let test_at = has_front code.instrs at (expr_code e) (i.JumpZero second ∷ (body_code first on ++ (i.Jump end ∷ tail))) has in
+        let others = body_made more d end left rest more_at works.3 (subst (λ z. HandlerFrom code z left rest) last h) in
+        let most = test_cost u e + max (handler_most u on + u Basic) (handler_most u off) + handler_most u more in
+        let one_way : handler_most u off < handler_most u on + u Basic → Made at left rest most = λ lt.
+            let leaves = made_by (i.Jump end) jump end left left others.path jump_at.0 (refl, refl) others.is in
+            let within = body_made on d first left leaves.path (has_front code.instrs first (body_code first on) (i.Jump end ∷ tail) after.1) works.1 leaves.is in
+            let test = test_made e second at first left within.path test_at after.0 (inr refl) within.is in
+            record { path = test.path; is = test.is; sums = omega (arith, test.sums, within.sums, leaves.sums, others.sums, lt) } in
+        let other_way : handler_most u on + u Basic ≤ handler_most u off → Made at left rest most = λ le.
+            let within = body_made off d second left others.path (has_front code.instrs second (body_code second off) (body_code end more) jump_at.1) works.2 others.is in
+            let test = test_made e second at second left within.path test_at after.0 (inl refl) within.is in
+            record { path = test.path; is = test.is; sums = omega (arith, test.sums, within.sums, others.sums, le) } in
+        ⊎_elim one_way other_way (cases_lt (handler_most u off) (handler_most u on + u Basic))
+    body_made (Loop b p e body more) d at left rest has works h = absurd works
+    body_made (Turns b p n body more) d at left rest has works h =
+        let turn = at + 1 in
+        let first = at + 2 in
+        let jump = first + body_size body in
+        let end = jump + 1 in
+        let places : turn + 1 ≡ at + 2 = omega arith in
+        let inside = subst (λ z. HasAt code.instrs z (body_code first body ++ (i.Jump turn ∷ body_code end more))) places has.1.1 in
+        let jump_at = has_rest code.instrs first jump (body_code first body) (i.Jump turn ∷ body_code end more) (ap (λ j. first + j) (body_length body first)) inside in
+        let body_at = has_front code.instrs first (body_code first body) (i.Jump turn ∷ body_code end more) inside in
+        let jump_is : jump ≡ turn + 1 + body_size body = omega arith in
+        let within : (others p : List ℕ) → HandlerFrom code (turn + 1 + body_size body) others p → Made (turn + 1) others p (handler_most u body) =
+            λ others p k. subst (λ z. Made z others p (handler_most u body)) (sym places) (body_made body (d + 1) first others p body_at works.2 (subst (λ z. HandlerFrom code z others p) (sym jump_is) k)) in
+        let last : at + (2 + body_size body + 1 + body_size more) ≡ end + body_size more = omega arith in
+        let others = body_made more d end left rest jump_at.1 works.3 (subst (λ z. HandlerFrom code z left rest) last h) in
+        let turns = turns_made body turn (handler_most u body) n left others.path (has.1.0 ∙ ap (λ j. Some (i.Turn (j + 1))) jump_is) (ap (λ z. slice_get code.instrs z) (sym jump_is) ∙ jump_at.0) within (subst (λ z. HandlerFrom code (z + 1) left others.path) jump_is others.is) in
+        let opens = subst (λ b. LeadsTo b (i.Push (pos n)) at left turn (n ∷ left)) (sym (ap is_turn has.1.0)) (refl, refl) in
+        let push = made_by (i.Push (pos n)) at turn left (n ∷ left) turns.path has.0 opens turns.is in
+        record { path = push.path; is = push.is; sums = omega (arith, push.sums, turns.sums, others.sums) }
