@@ -87,7 +87,7 @@ simple_no_turn (Emit channel value) = refl
 simple_no_turn (Raise task) = refl
 
 module _ (u : Costs) (code : CodeValue) where
-  abbrev Sum : List ℕ → ℕ
+  abbrev pub Sum : List ℕ → ℕ
   Sum path = path_cost (place_cost u code) path
 
   -- a path begins with one instruction
@@ -108,7 +108,7 @@ module _ (u : Costs) (code : CodeValue) where
   step_sum : (x : Instr) (pc : ℕ) (left path : List ℕ) (s : Steps x pc left path) → slice_get code.instrs pc ≡ Some x → Sum path ≡ u (class_of x) + Sum s.rest
   step_sum x pc left path s e = ap Sum s.path_is ∙ ap (λ c. c + Sum s.rest) (ap (instr_cost u) e)
 
-  at_end : (pc : ℕ) (left path : List ℕ) → slice_get code.instrs pc ≡ Some i.End → HandlerFrom code pc left path → Sum path ≡ u Basic
+  pub at_end : (pc : ℕ) (left path : List ℕ) → slice_get code.instrs pc ≡ Some i.End → HandlerFrom code pc left path → Sum path ≡ u Basic
   at_end pc left path e (Ends d) = omega (arith, ap (instr_cost u) e)
   at_end pc left path e (LeadsOn {next = n} {later = l} {path = p} y d leads rest) =
       let same : y ≡ i.End = cc in absurd (subst (λ z. LeadsTo (turn_follows code pc) z pc left n l) same leads)
@@ -213,7 +213,7 @@ module _ (u : Costs) (code : CodeValue) where
         once : (k n : ℕ) → suc n * k ≡ k + n * k
         once k n = omega arith
 
-    body_comes : (body : Body) (d at : ℕ) (left path : List ℕ) → HasAt code.instrs at (body_code at body) → EventWorks words posts d body → HandlerFrom code at left path → Comes (at + body_size body) left path (handler_most u body)
+    pub body_comes : (body : Body) (d at : ℕ) (left path : List ℕ) → HasAt code.instrs at (body_code at body) → EventWorks words posts d body → HandlerFrom code at left path → Comes (at + body_size body) left path (handler_most u body)
     body_comes Empty d at left path has works h =
         let here : at ≡ at + 0 = omega arith in
         record { rest = path; is = subst (λ z. HandlerFrom code z left path) here h; sums = omega arith }
@@ -351,7 +351,7 @@ module _ (u : Costs) (code : CodeValue) where
       one_more k n = omega arith
 
   module _ (words posts : ℕ) where
-    body_made : (body : Body) (d at : ℕ) (left rest : List ℕ) → HasAt code.instrs at (body_code at body) → EventWorks words posts d body → HandlerFrom code (at + body_size body) left rest → Made at left rest (handler_most u body)
+    pub body_made : (body : Body) (d at : ℕ) (left rest : List ℕ) → HasAt code.instrs at (body_code at body) → EventWorks words posts d body → HandlerFrom code (at + body_size body) left rest → Made at left rest (handler_most u body)
     body_made Empty d at left rest has works h =
         let here : at + 0 ≡ at = omega arith in
         record { path = rest; is = subst (λ z. HandlerFrom code z left rest) here h; sums = omega arith }

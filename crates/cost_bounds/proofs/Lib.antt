@@ -1,2 +1,3 @@
 pub mod TaskPaths
 pub mod HandlerPaths
+pub mod Programs

@@ -2,7 +2,9 @@
 #![tactic(auto)]
 
 mod job;
+mod laws;
 mod total;
 
 pub use job::{Bounds, Job};
+pub use laws::runs_within_law;
 pub use total::bounds;
