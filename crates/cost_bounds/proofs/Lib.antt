@@ -1,3 +1,5 @@
 pub mod TaskPaths
 pub mod HandlerPaths
 pub mod Programs
+pub mod Known
+pub mod KnownJobs

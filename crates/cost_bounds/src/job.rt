@@ -1,4 +1,5 @@
 ghost use Rattle.std.specs.Prelude.{◌≡◌, Some, slice_get};
+ghost use Rattle.cost_bounds.specs.Pass.{dearer, nothing, plus_capped, times_capped};
 
 use std::marker::Model;
 
@@ -7,6 +8,44 @@ use std::marker::Model;
 pub struct Job {
     pub units: u64,
     pub ticks: u64,
+}
+
+impl Job {
+    pub(crate) fn nothing() -> Job
+        ensures { result ≡ nothing }
+    {
+        Job { units: 0, ticks: 0 }
+    }
+
+    /// The sums, which stand still at the greatest number.
+    pub(crate) fn plus(self, other: Job) -> Job
+        ensures { result ≡ plus_capped self other }
+    {
+        Job {
+            units: self.units.saturating_add(other.units),
+            ticks: self.ticks.saturating_add(other.ticks),
+        }
+    }
+
+    /// Several times the same, likewise.
+    pub(crate) fn times(self, n: u64) -> Job
+        ensures { result ≡ times_capped self n }
+    {
+        Job {
+            units: self.units.saturating_mul(n),
+            ticks: self.ticks.saturating_mul(n),
+        }
+    }
+
+    /// The greater units and the greater ticks.
+    pub(crate) fn dearer(self, other: Job) -> Job
+        ensures { result ≡ dearer self other }
+    {
+        Job {
+            units: self.units.max(other.units),
+            ticks: self.ticks.max(other.ticks),
+        }
+    }
 }
 
 /// What each version of each event takes at most, and a section of the tasks, a checkpoint and a wake.

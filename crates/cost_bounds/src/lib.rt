@@ -3,6 +3,7 @@
 
 mod job;
 mod laws;
+mod place;
 mod total;
 
 pub use job::{Bounds, Job};
