@@ -3,3 +3,4 @@ pub mod HandlerPaths
 pub mod Programs
 pub mod Known
 pub mod KnownJobs
+pub mod Worths
