@@ -4,3 +4,4 @@ pub mod Programs
 pub mod Known
 pub mod KnownJobs
 pub mod Worths
+pub mod Passing

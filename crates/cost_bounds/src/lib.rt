@@ -3,6 +3,7 @@
 
 mod job;
 mod laws;
+mod pass;
 mod place;
 mod total;
 
