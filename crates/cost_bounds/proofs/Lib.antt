@@ -5,3 +5,4 @@ pub mod Known
 pub mod KnownJobs
 pub mod Worths
 pub mod Passing
+pub mod Ends

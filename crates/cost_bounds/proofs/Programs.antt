@@ -87,7 +87,7 @@ handler_greatest u p checked event version entry at = record { upper = upper; re
 
 -- ---- each version has an entry
 
-program_versions : (p : Checked) → (code_of p).versions ≡ events_entries (tasks_size (bodies_of p)) (versions_of p)
+pub program_versions : (p : Checked) → (code_of p).versions ≡ events_entries (tasks_size (bodies_of p)) (versions_of p)
 unfolding code_of
 program_versions p = refl
 

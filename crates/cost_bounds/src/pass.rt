@@ -1,8 +1,9 @@
 //! The pass over a program's code, from its last place to its first.
 
-ghost use Rattle.std.specs.Prelude.{◌≡◌, ◌≤◌, ◌<◌, ◌+◌, IfOk, length};
+ghost use Rattle.std.specs.Prelude.{◌≡◌, ◌≤◌, ◌<◌, ◌+◌, IfOk, length, slice_get};
 ghost use Rattle.cat_program.specs.Places.{tasks_size};
 ghost use Rattle.cat_program.specs.Checked.{Checked, IsChecked, bodies_of};
+ghost use Rattle.cat_machine.specs.CodeValue.{versions_at};
 ghost use Rattle.cat_machine.specs.Code.{code_of};
 ghost use Rattle.cost_bounds.specs.Pass.{AllKnown, PlaceKnown};
 
@@ -11,6 +12,14 @@ use crate::place::{handler_from, section_from};
 use cat_machine::Code;
 use nv_memory::Device;
 use std::alloc::{AllocError, Global};
+
+// The entry of the first event's first version.
+fn first_entry(code: &Code) -> Option<u32>
+    requires { 0 < length code.now.versions }
+    ensures { result ≡ slice_get (versions_at code.now 0) 0 }
+{
+    code.versions(0).first().copied()
+}
 
 /// How many places the tasks' code has. The events' code comes after it.
 pub(crate) fn tasks_end(code: &Code) -> u32
@@ -21,8 +30,8 @@ pub(crate) fn tasks_end(code: &Code) -> u32
     if code.events() == 0 {
         return len;
     }
-    match code.versions(0).first() {
-        Some(entry) => len.min(*entry),
+    match first_entry(code) {
+        Some(entry) => len.min(entry),
         None => len,
     }
 }
