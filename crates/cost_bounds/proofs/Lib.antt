@@ -1,0 +1,8 @@
+pub mod TaskPaths
+pub mod HandlerPaths
+pub mod Programs
+pub mod Known
+pub mod KnownJobs
+pub mod Worths
+pub mod Passing
+pub mod Ends
