@@ -27,7 +27,7 @@ use Rattle.cost_bounds.proofs.HandlerPaths.{Made, at_end, body_comes, body_made}
 
 -- ---- sections
 
-tasks_stand : (p : Checked) → HasAt (code_of p).instrs 0 (tasks_code 0 0 (bodies_of p))
+pub tasks_stand : (p : Checked) → HasAt (code_of p).instrs 0 (tasks_code 0 0 (bodies_of p))
 unfolding code_of
 tasks_stand p = has_all (tasks_code 0 0 (bodies_of p)) [] (events_code (tasks_size (bodies_of p)) (versions_of p))
 
