@@ -15,6 +15,9 @@ code_length : (p : Checked) → length (code_of p).instrs ≡ tasks_size (bodies
 unfolding code_of
 code_length p = omega (arith, length-append (tasks_code 0 0 (bodies_of p)) (events_code (tasks_size (bodies_of p)) (versions_of p)), tasks_code_length (bodies_of p) 0 0)
 
+pub code_covers : (p : Checked) → tasks_size (bodies_of p) ≤ length (code_of p).instrs
+code_covers p = omega (arith, code_length p)
+
 no_code : (events : List (List Body)) (at : ℕ) → length (events_entries at events) ≡ 0 → length (events_code at events) ≡ 0
 no_code [] at e = refl
 no_code (event ∷ events) at e = absurd (omega (arith, e))
