@@ -19,7 +19,7 @@ use Rattle.cat_machine.proofs.Sizes.{body_length}
 use Rattle.cat_machine.proofs.Spent.{spends}
 use Rattle.cat_machine.proofs.Entering.{VersionStands, version_stands}
 use Rattle.cost_bounds.specs.declared.job.Job.{Job}
-use Rattle.cost_bounds.specs.BoundsValue.{BoundsValue, job_at}
+use Rattle.cost_bounds.specs.BoundsValue.{BoundsValue, HasJob, job_at}
 use Rattle.cost_bounds.specs.Paths.{SectionFrom, IsSection, HandlerFrom, Ends, IsHandler}
 use Rattle.cost_bounds.specs.Greatest.{units_of, ticks_of, sum_over, IsGreatest, AreGreatest, times, plus, whole_job, IsJob, AreBounds, IsWithin, spent, RunsWithin}
 use Rattle.cost_bounds.proofs.TaskPaths.{one_section, Sums, Most, tasks_places}
@@ -158,3 +158,18 @@ runs_within p device lines b h bounds fits free empty = record { section = secti
           units = omega (arith, units, ap (λ (x : Job). x.units) j.whole);
           ticks = omega (arith, ticks, ap (λ (x : Job). x.ticks) j.whole);
         }
+
+-- ---- each version has a job
+
+same_lengths : (jobs : List (List Job)) (events : List (List ℕ)) → map length jobs ≡ map length events → (event version : ℕ) → event < length events → version < length (unwrap_or (slice_get events event) []) → (event < length jobs) × (version < length (unwrap_or (slice_get jobs event) []))
+same_lengths [] [] e event version lt within = absurd (omega (arith, lt))
+same_lengths [] (vs ∷ events) e event version lt within = cc
+same_lengths (js ∷ jobs) [] e event version lt within = cc
+same_lengths (js ∷ jobs) (vs ∷ events) e zero version lt within = let same : length js ≡ length vs = cc in (omega arith, omega (arith, within, same))
+same_lengths (js ∷ jobs) (vs ∷ events) e (suc event) version lt within =
+    let same : map length jobs ≡ map length events = cc in
+    let r = same_lengths jobs events same event version (omega (arith, lt)) within in
+    (omega (arith, r.0), r.1)
+
+pub versions_have_jobs : (p : Checked) (device : Device) (lines : ℕ) (b : BoundsValue) (event version : ℕ) → AreBounds p device lines b → HasVersion p event version → HasJob b event version
+versions_have_jobs p device lines b event version bounds has = same_lengths b.jobs p.events bounds.versions event version has.0 has.1

@@ -121,3 +121,10 @@ impl Bounds {
             .max(1)
     }
 }
+
+#[cfg(test)]
+impl Bounds {
+    pub(crate) fn jobs(&self) -> &[Vec<Job>] {
+        self.jobs.as_slice()
+    }
+}

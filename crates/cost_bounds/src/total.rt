@@ -6,7 +6,7 @@ ghost use Rattle.cat_machine.specs.Code.{code_of};
 ghost use Rattle.cost_bounds.specs.BoundsValue.{jobs_of};
 ghost use Rattle.cat_machine.specs.Fits.{Fits};
 ghost use Rattle.cat_program.specs.Places.{tasks_size};
-ghost use Rattle.cat_program.specs.Checked.{bodies_of};
+ghost use Rattle.cat_program.specs.Checked.{Checked, IsChecked, bodies_of};
 ghost use Rattle.cost_bounds.specs.Greatest.{AreBounds, RunsWithin};
 ghost use Rattle.cost_bounds.specs.Pass.{AreMade, IsDearest, around_job, cost_job, entry_job, entry_jobs};
 
@@ -83,18 +83,15 @@ fn all_jobs(
     Ok(all)
 }
 
-// The bounds, where only memory may be wanting.
-fn made(
+/// The bounds of code, where only memory may be wanting.
+pub(crate) fn made(
     alloc: Global,
-    program: &Program,
     code: &Code,
     device: &Device,
     lines: u32,
 ) -> Result<Bounds, AllocError>
-    requires { code.now ≡ code_of program.now }
-    ensures { IfOk result (λ b. AreMade code.now device.now lines (tasks_size (bodies_of program.now)) b) }
+    ensures { IfOk result (λ b. (p : Checked) → IsChecked p → code.now ≡ code_of p → AreMade code.now device.now lines (tasks_size (bodies_of p)) b) }
 {
-    let _checked = program.bodies();
     let tasks = tasks_end(code);
     let most = pass(alloc, code, device, tasks)?;
     let write = cost_job(device.write);
@@ -119,7 +116,7 @@ pub fn bounds(
     ensures runs { IfOk result (λ b. (h : Held) → Fits program.now code.now h → h.kept ≡ None → h.stack ≡ [] → RunsWithin program.now device.now lines b h) }
 {
     let _checked = program.bodies();
-    match made(alloc, program, code, device, lines) {
+    match made(alloc, code, device, lines) {
         Ok(bounds) => Ok(bounds),
         Err(_) => Err(NoMemory),
     }
