@@ -1,16 +1,16 @@
 -- The bounds that the pass gives are the greatest sums over the paths.
-use Rattle.std.proofs.Common.{◌≡◌, ℕ, zero, suc, ◌+◌, ◌*◌, ◌^◌, ◌-◌, ◌<◌, ◌≤◌, List, [], ◌∷◌, ◌++◌, length, take, Option, Some, None, refl, sym, ap, ◌∙◌, subst, arith, inl, inr, ⊎_elim, append-nil}
-use Rattle.std.specs.Prelude.{slice_get, unwrap_or, map, min, max, ◌⊎◌}
+use Rattle.std.proofs.Common.{◌≡◌, ℕ, zero, suc, ◌+◌, ◌*◌, ◌<◌, ◌≤◌, List, [], ◌∷◌, ◌++◌, length, take, Option, Some, None, refl, sym, ap, ◌∙◌, subst, arith, inl, inr, ⊎_elim, append-nil}
+use Rattle.std.specs.Prelude.{slice_get, unwrap_or, map, ◌⊎◌}
 use Rattle.cat_program.specs.declared.syntax.Class.{Class}
 use Rattle.cat_program.specs.declared.syntax.Class.TheVariants.{Basic, Memory, Out}
 use Rattle.cat_program.specs.Body.{Body, tree_of}
 use Rattle.cat_program.specs.Places.{body_size, tasks_size, version_size, versions_size}
-use Rattle.cat_program.specs.Checked.{Checked, IsChecked, HasVersion, bodies_of, versions_of, version_at, most_steps}
+use Rattle.cat_program.specs.Checked.{Checked, IsChecked, bodies_of, versions_of, version_at}
 use Rattle.nv_memory.specs.declared.device.Device.{Device}
 use Rattle.cat_machine.specs.declared.instr.Instr.{Instr}
 use Rattle.cat_machine.specs.declared.instr.Instr.TheVariants as i
 use Rattle.cat_machine.specs.ClassOf.{class_of}
-use Rattle.cat_machine.specs.CodeValue.{CodeValue, EntryAt, versions_at}
+use Rattle.cat_machine.specs.CodeValue.{CodeValue, EntryAt}
 use Rattle.cat_machine.specs.Code.{body_code, tasks_code, events_code, versions_entries, events_entries, code_of}
 use Rattle.cat_machine.specs.Costs.{Costs, instr_cost, place_cost, path_cost, tasks_most, handler_most}
 use Rattle.std.proofs.lemmas.List.{length-map}
@@ -21,8 +21,8 @@ use Rattle.cat_machine.proofs.Entering.{version_stands, tasks_code_length}
 use Rattle.cost_bounds.specs.declared.job.Job.{Job}
 use Rattle.cost_bounds.specs.BoundsValue.{BoundsValue, job_at}
 use Rattle.cost_bounds.specs.Paths.{SectionFrom, Acts, GoesOn, IsSection, IsHandler}
-use Rattle.cost_bounds.specs.Greatest.{units_of, ticks_of, sum_over, IsGreatest, AreGreatest, times, plus, whole_job, IsJob, AreBounds}
-use Rattle.cost_bounds.specs.Pass.{most_number, capped, nothing, job_in, plus_capped, times_capped, front_of, SumsTo, SectionKnown, Worth, AtEnd, IsWorth, HandlerKnown, PlaceKnown, AllKnown, IsTop, IsDearest, entry_job, entry_jobs, cost_job, around_job, AreMade}
+use Rattle.cost_bounds.specs.Greatest.{units_of, ticks_of, sum_over, IsGreatest, times, whole_job, IsJob, AreBounds}
+use Rattle.cost_bounds.specs.Pass.{capped, job_in, plus_capped, times_capped, front_of, SumsTo, AtEnd, IsWorth, IsTop, entry_job, cost_job, around_job, AreMade}
 use Rattle.cost_bounds.proofs.TaskPaths.{one_section, Most, tasks_places}
 use Rattle.cost_bounds.proofs.Worths.{body_worth}
 use Rattle.cost_bounds.proofs.Programs.{handler_greatest, program_versions}
@@ -153,18 +153,22 @@ module _ (u : Costs) (p : Checked) (checked : IsChecked p) (small : Small u) whe
       in_front [] (suc n) k lt = refl
       in_front (x ∷ jobs) (suc n) zero lt = refl
       in_front (x ∷ jobs) (suc n) (suc k) lt = in_front jobs n k (omega (arith, lt))
+
       long_front : (jobs : List Job) (n : ℕ) → n ≤ length jobs → length (take n jobs) ≡ n
       long_front jobs zero le = refl
       long_front [] (suc n) le = absurd (omega (arith, le))
       long_front (x ∷ jobs) (suc n) le = ap suc (long_front jobs n (omega (arith, le)))
+
       upper : (path : List ℕ) → IsSection p path → sum_over u p path ≤ m
       upper path s =
           let r = found s.from (f (job_in most s.from)) s.within (known s.from s.within) in
           let same = one_section (code_of p) s.from path r.path s.is r.is in
           let le = top.upper s.from (omega (arith, s.within, long_front most Size all)) in
           omega (arith, ap (sum_over u p) same, r.sums, le, ap f (in_front most Size s.from s.within))
+
       Reached : Type 0
       Reached = ((path : List ℕ) × IsSection p path × (sum_over u p path ≡ m)) ⊎ (((path : List ℕ) → IsSection p path → ⊥) × (m ≡ 0))
+
       by_size : m ≡ 0 → (n : ℕ) → Size ≡ n → Reached
       by_size none zero e = inr (λ path s. absurd (omega (arith, s.within, e)), none)
       by_size none (suc n) e =
@@ -172,6 +176,7 @@ module _ (u : Costs) (p : Checked) (checked : IsChecked p) (small : Small u) whe
           let r = found 0 (f (job_in most 0)) within (known 0 within) in
           let le = top.upper 0 (omega (arith, within, long_front most Size all)) in
           inl (r.path, record { from = 0; within = within; is = r.is }, omega (arith, r.sums, le, ap f (in_front most Size 0 within), none))
+
       by_top : (((k : ℕ) × (k < length (take Size most)) × (f (job_in (take Size most) k) ≡ m)) ⊎ (m ≡ 0)) → Reached
       by_top (inl (k, lt, e)) =
           let within : k < Size = omega (arith, lt, long_front most Size all) in

@@ -1,5 +1,5 @@
 -- The greatest of several jobs, and the jobs of all versions.
-use Rattle.std.proofs.Common.{◌≡◌, ℕ, zero, suc, ◌+◌, ◌<◌, ◌≤◌, List, [], ◌∷◌, ◌++◌, length, drop, take, Option, Some, None, refl, sym, ap, ◌∙◌, subst, arith, inl, inr, ⊎_elim, append_assoc, append-nil}
+use Rattle.std.proofs.Common.{◌≡◌, ℕ, zero, suc, ◌+◌, ◌<◌, ◌≤◌, List, [], ◌∷◌, ◌++◌, length, drop, Some, refl, sym, ap, ◌∙◌, arith, inl, inr, ⊎_elim, append_assoc, append-nil}
 use Rattle.std.specs.Prelude.{max, map, slice_get, unwrap_or, ◌⊎◌}
 use Rattle.std.proofs.lemmas.Bool.{cases_lt}
 use Rattle.std.proofs.lemmas.List.{drop_all, map-append}
@@ -29,9 +29,11 @@ top_goes f jobs n m new is t = record { upper = upper; reached = by_order (cases
         by_place : ((k < n) ⊎ (n ≤ k)) → f (job_in jobs k) ≤ new
         by_place (inl before) = omega (arith, t.upper k before, is)
         by_place (inr here) = let same : k ≡ n = omega (arith, lt, here) in omega (arith, ap (λ z. f (job_in jobs z)) same, is)
+
     by_old : (new ≡ m) → (((k : ℕ) × (k < n) × (f (job_in jobs k) ≡ m)) ⊎ (m ≡ 0)) → ((k : ℕ) × (k < n + 1) × (f (job_in jobs k) ≡ new)) ⊎ (new ≡ 0)
     by_old e (inl r) = inl (r.0, omega (arith, r.1), r.2 ∙ sym e)
     by_old e (inr z) = inr (e ∙ z)
+
     by_order : ((m < f (job_in jobs n)) ⊎ (f (job_in jobs n) ≤ m)) → ((k : ℕ) × (k < n + 1) × (f (job_in jobs k) ≡ new)) ⊎ (new ≡ 0)
     by_order (inl lt) = inl (n, omega arith, omega (arith, is, lt))
     by_order (inr le) = by_old (omega (arith, is, le)) t.reached
@@ -41,6 +43,7 @@ top_ends f jobs n m e t = record { upper = λ k lt. t.upper k (omega (arith, lt,
   where
     some : ((k : ℕ) × (k < n) × (f (job_in jobs k) ≡ m)) → ((k : ℕ) × (k < length jobs) × (f (job_in jobs k) ≡ m)) ⊎ (m ≡ 0)
     some r = inl (r.0, omega (arith, r.1, e), r.2)
+
     none : m ≡ 0 → ((k : ℕ) × (k < length jobs) × (f (job_in jobs k) ≡ m)) ⊎ (m ≡ 0)
     none z = inr z
 

@@ -1,5 +1,5 @@
 -- Bounds, as contracts see them.
-use Rattle.std.specs.Prelude.{ℕ, ◌+◌, ◌*◌, ◌<◌, max, List, [], length, map, Option, slice_get, unwrap_or, Vec}
+use Rattle.std.specs.Prelude.{ℕ, ◌<◌, max, List, [], length, map, Option, slice_get, unwrap_or, Vec}
 use Rattle.std.specs.Global.{Global}
 use Rattle.cost_bounds.specs.declared.job.Job.{Job}
 

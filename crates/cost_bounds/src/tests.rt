@@ -44,8 +44,7 @@ fn job(units: u64, ticks: u64) -> Job {
 // A sensor node. Its task sums four elements of a ring and puts out the mean. Its event `sample` puts a value into the ring,
 // in two versions, and `tap` puts out its payload.
 fn node(alloc: Global) -> Result<Code, AllocError> {
-    let instrs = vec![
-        in alloc;
+    let instrs = vec![in alloc;
         Instr::Begin(0),
         Instr::Push(0),
         Instr::Store(0),
@@ -121,8 +120,7 @@ fn the_sensor_node_has_its_bounds(rt: HostRuntime) -> Result<(), Fail> {
 // A handler with a choice whose ways have the greater units and the greater ticks, two turns around it, and then a repeat of
 // no turns.
 fn handler(alloc: Global) -> Result<Code, AllocError> {
-    let instrs = vec![
-        in alloc;
+    let instrs = vec![in alloc;
         Instr::Push(2),
         Instr::Turn(11),
         Instr::Load(0),

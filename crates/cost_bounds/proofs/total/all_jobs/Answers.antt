@@ -1,4 +1,4 @@
-use Rattle.std.proofs.Common.{◌<◌, length, arith}
+use Rattle.std.proofs.Common.{arith}
 use Rattle.cost_bounds.proofs.Totals.{event_goes}
 use Rattle.cost_bounds.proofs.total.all_jobs.Goals as goal
 

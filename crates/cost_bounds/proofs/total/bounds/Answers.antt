@@ -1,4 +1,4 @@
-use Rattle.std.proofs.Common.{◌≡◌, [], None, sym, subst}
+use Rattle.std.proofs.Common.{subst}
 use Rattle.cat_program.specs.Places.{tasks_size}
 use Rattle.cat_program.specs.Checked.{bodies_of}
 use Rattle.cat_machine.specs.Fits.{Fits}
