@@ -1,19 +1,22 @@
 -- Where the tasks' code of a program ends.
-use Rattle.std.proofs.Common.{◌≡◌, ℕ, zero, suc, ◌+◌, ◌<◌, ◌≤◌, min, List, [], ◌∷◌, ◌++◌, length, Option, Some, None, refl, sym, ap, ◌∙◌, subst, arith, length-append}
+use Rattle.std.proofs.Common.{◌≡◌, ℕ, suc, ◌+◌, ◌<◌, ◌≤◌, min, List, [], ◌∷◌, length, Some, None, refl, sym, ap, ◌∙◌, arith, length-append}
 use Rattle.std.specs.Prelude.{slice_get, unwrap_or, map}
 use Rattle.cat_program.specs.declared.headers.Event.{Event}
 use Rattle.cat_program.specs.Declares.{EachEventIs}
 use Rattle.cat_program.specs.Body.{Body, tree_of}
 use Rattle.cat_program.specs.Places.{tasks_size}
 use Rattle.cat_program.specs.Checked.{Checked, IsChecked, bodies_of, versions_of}
-use Rattle.cat_machine.specs.CodeValue.{CodeValue, versions_at}
-use Rattle.cat_machine.specs.Code.{tasks_code, events_code, versions_entries, events_entries, code_of}
+use Rattle.cat_machine.specs.CodeValue.{versions_at}
+use Rattle.cat_machine.specs.Code.{tasks_code, events_code, events_entries, code_of}
 use Rattle.cat_machine.proofs.Entering.{tasks_code_length}
 use Rattle.cost_bounds.proofs.Programs.{program_versions}
 
 code_length : (p : Checked) → length (code_of p).instrs ≡ tasks_size (bodies_of p) + length (events_code (tasks_size (bodies_of p)) (versions_of p))
 unfolding code_of
 code_length p = omega (arith, length-append (tasks_code 0 0 (bodies_of p)) (events_code (tasks_size (bodies_of p)) (versions_of p)), tasks_code_length (bodies_of p) 0 0)
+
+pub code_covers : (p : Checked) → tasks_size (bodies_of p) ≤ length (code_of p).instrs
+code_covers p = omega (arith, code_length p)
 
 no_code : (events : List (List Body)) (at : ℕ) → length (events_entries at events) ≡ 0 → length (events_code at events) ≡ 0
 no_code [] at e = refl

@@ -1,6 +1,6 @@
 -- The paths of a handler's code, and the greatest sum over them.
-use Rattle.std.proofs.Common.{◌≡◌, ℕ, zero, suc, ◌+◌, ◌*◌, ◌<◌, ◌≤◌, Bool, true, false, List, [], ◌∷◌, ◌++◌, length, Option, Some, None, refl, sym, ap, ◌∙◌, subst, arith, inl, inr, ⊎_elim}
-use Rattle.std.specs.Prelude.{max, slice_get, pos, negsuc, ◌⊎◌}
+use Rattle.std.proofs.Common.{◌≡◌, ℕ, zero, suc, ◌+◌, ◌*◌, ◌<◌, ◌≤◌, Bool, true, false, List, [], ◌∷◌, ◌++◌, length, Some, refl, sym, ap, ◌∙◌, subst, arith, inl, inr, ⊎_elim}
+use Rattle.std.specs.Prelude.{max, slice_get, pos, ◌⊎◌}
 use Rattle.std.proofs.lemmas.Bool.{cases_lt}
 use Rattle.cat_program.specs.declared.syntax.Expr.{Expr}
 use Rattle.cat_program.specs.declared.syntax.Class.TheVariants.{Basic}
@@ -16,7 +16,7 @@ use Rattle.cat_machine.specs.Costs.{Costs, code_cost, instr_cost, place_cost, pa
 use Rattle.cat_machine.proofs.At.{HasAt, has_front, has_rest}
 use Rattle.cat_machine.proofs.Sizes.{operands_length, body_length}
 use Rattle.cat_machine.proofs.Expressions.{expr_length}
-use Rattle.cost_bounds.specs.Paths.{is_turn, opened, LeadsTo, turn_follows, HandlerFrom, Ends, LeadsOn}
+use Rattle.cost_bounds.specs.Paths.{is_turn, LeadsTo, turn_follows, HandlerFrom, Ends, LeadsOn}
 use Rattle.cost_bounds.proofs.TaskPaths.{works_out, AllWorkOut, expr_works_out, operands_work_out}
 
 -- ---- where instructions lead
@@ -157,7 +157,7 @@ module _ (u : Costs) (code : CodeValue) where
       let e' = ap (λ j. slice_get code.instrs j) place ∙ e in
       let first = plain_comes y at left path has.0 (works_plain y all.0) (next_no_turn xs x at k has.1 all.1 refl e' none) h in
       comes_as (at + 1 + k) (at + n) left path (u (class_of y) + code_cost u xs) (code_cost u (y ∷ xs)) place (omega arith)
-        (comes_on (at + 1) (at + 1 + k) left path (u (class_of y)) (code_cost u xs) first (worked_comes xs x (at + 1) k left first.rest has.1 all.1 refl e' none first.is))
+      (comes_on (at + 1) (at + 1 + k) left path (u (class_of y)) (code_cost u xs) first (worked_comes xs x (at + 1) k left first.rest has.1 all.1 refl e' none first.is))
 
   simple_comes : (s : Simple) (at : ℕ) (left path : List ℕ) → HasAt code.instrs at (operands_code s) → slice_get code.instrs (at + operands_size s) ≡ Some (simple_instr s) → HandlerFrom code at left path → Comes (at + operands_size s + 1) left path (simple_cost u s)
   simple_comes s at left path has e h =
@@ -174,10 +174,13 @@ module _ (u : Costs) (code : CodeValue) where
     where
       n : ℕ
       n = expr_size e
+
       first : Comes (at + n) left path (code_cost u (expr_code e))
       first = worked_comes (expr_code e) (i.JumpZero to) at n left path has (expr_works_out e) (expr_length e) d refl h
+
       step : Steps (i.JumpZero to) (at + n) left first.rest
       step = steps (i.JumpZero to) (at + n) left first.rest d (λ q. cc) first.is
+
       by_way : ((step.next ≡ to) ⊎ (step.next ≡ at + n + 1)) → Comes (at + n + 1) left path (test_cost u e) ⊎ Comes to left path (test_cost u e)
       by_way (inl same) = inr (comes_on (at + n) to left path (code_cost u (expr_code e)) (u Basic) first (comes_by (i.JumpZero to) (at + n) to left first.rest d step same step.leads.1))
       by_way (inr same) = inl (comes_on (at + n) (at + n + 1) left path (code_cost u (expr_code e)) (u Basic) first (comes_by (i.JumpZero to) (at + n) (at + n + 1) left first.rest d step same step.leads.1))
@@ -223,7 +226,7 @@ module _ (u : Costs) (code : CodeValue) where
         let first = simple_comes simple at left path (has_front code.instrs at (operands_code simple) (simple_instr simple ∷ body_code (at + n + 1) rest) has) after.0 h in
         let others = body_comes rest d (at + n + 1) left first.rest after.1 works.1 first.is in
         comes_as (at + n + 1 + body_size rest) (at + (n + 1 + body_size rest)) left path (simple_cost u simple + handler_most u rest) (simple_cost u simple + handler_most u rest) (omega arith) (omega arith)
-          (comes_on (at + n + 1) (at + n + 1 + body_size rest) left path (simple_cost u simple) (handler_most u rest) first others)
+        (comes_on (at + n + 1) (at + n + 1 + body_size rest) left path (simple_cost u simple) (handler_most u rest) first others)
     body_comes (When b p e on rest) d at left path has works h =
         let first = at + expr_size e + 1 in
         let end = first + body_size on in
@@ -233,15 +236,15 @@ module _ (u : Costs) (code : CodeValue) where
         let last = at + (expr_size e + 1 + body_size on + body_size rest) in
         let all = test_cost u e + handler_most u on + handler_most u rest in
         let through : Comes first left path (test_cost u e) → Comes last left path all = λ c.
-            let within = body_comes on d first left c.rest (has_front code.instrs first (body_code first on) (body_code end rest) after.1) works.1 c.is in
-            let both = comes_on first end left path (test_cost u e) (handler_most u on) c within in
-            let others = body_comes rest d end left both.rest rest_at works.2 both.is in
-            comes_as (end + body_size rest) last left path all all (omega arith) (omega arith)
-              (comes_on end (end + body_size rest) left path (test_cost u e + handler_most u on) (handler_most u rest) both others) in
+        let within = body_comes on d first left c.rest (has_front code.instrs first (body_code first on) (body_code end rest) after.1) works.1 c.is in
+        let both = comes_on first end left path (test_cost u e) (handler_most u on) c within in
+        let others = body_comes rest d end left both.rest rest_at works.2 both.is in
+        comes_as (end + body_size rest) last left path all all (omega arith) (omega arith)
+        (comes_on end (end + body_size rest) left path (test_cost u e + handler_most u on) (handler_most u rest) both others) in
         let past : Comes end left path (test_cost u e) → Comes last left path all = λ c.
-            let others = body_comes rest d end left c.rest rest_at works.2 c.is in
-            comes_as (end + body_size rest) last left path (test_cost u e + handler_most u rest) all (omega arith) (omega arith)
-              (comes_on end (end + body_size rest) left path (test_cost u e) (handler_most u rest) c others) in
+        let others = body_comes rest d end left c.rest rest_at works.2 c.is in
+        comes_as (end + body_size rest) last left path (test_cost u e + handler_most u rest) all (omega arith) (omega arith)
+        (comes_on end (end + body_size rest) left path (test_cost u e) (handler_most u rest) c others) in
         ⊎_elim through past (test_comes e end at left path (has_front code.instrs at (expr_code e) (i.JumpZero end ∷ tail) has) after.0 h)
     body_comes (Choice b p e on off rest) d at left path has works h =
         let first = at + expr_size e + 1 in
@@ -256,16 +259,16 @@ module _ (u : Costs) (code : CodeValue) where
         let most = max (handler_most u on + u Basic) (handler_most u off) in
         let all = test_cost u e + most + handler_most u rest in
         let finish : (m : ℕ) → m ≤ most → Comes end left path (test_cost u e + m) → Comes last left path all = λ m le c.
-            let others = body_comes rest d end left c.rest rest_at works.3 c.is in
-            comes_as (end + body_size rest) last left path (test_cost u e + m + handler_most u rest) all (omega arith) (omega (arith, le))
-              (comes_on end (end + body_size rest) left path (test_cost u e + m) (handler_most u rest) c others) in
+        let others = body_comes rest d end left c.rest rest_at works.3 c.is in
+        comes_as (end + body_size rest) last left path (test_cost u e + m + handler_most u rest) all (omega arith) (omega (arith, le))
+        (comes_on end (end + body_size rest) left path (test_cost u e + m) (handler_most u rest) c others) in
         let one_way : Comes first left path (test_cost u e) → Comes last left path all = λ c.
-            let within = body_comes on d first left c.rest (has_front code.instrs first (body_code first on) (i.Jump end ∷ tail) after.1) works.1 c.is in
-            let leaves = jump_comes jump end left within.rest jump_at.0 within.is in
-            finish (handler_most u on + u Basic) (omega arith) (comes_on first end left path (test_cost u e) (handler_most u on + u Basic) c (comes_on jump end left c.rest (handler_most u on) (u Basic) within leaves)) in
+        let within = body_comes on d first left c.rest (has_front code.instrs first (body_code first on) (i.Jump end ∷ tail) after.1) works.1 c.is in
+        let leaves = jump_comes jump end left within.rest jump_at.0 within.is in
+        finish (handler_most u on + u Basic) (omega arith) (comes_on first end left path (test_cost u e) (handler_most u on + u Basic) c (comes_on jump end left c.rest (handler_most u on) (u Basic) within leaves)) in
         let other_way : Comes second left path (test_cost u e) → Comes last left path all = λ c.
-            let within = body_comes off d second left c.rest (has_front code.instrs second (body_code second off) (body_code end rest) jump_at.1) works.2 c.is in
-            finish (handler_most u off) (omega arith) (comes_on second end left path (test_cost u e) (handler_most u off) c within) in
+        let within = body_comes off d second left c.rest (has_front code.instrs second (body_code second off) (body_code end rest) jump_at.1) works.2 c.is in
+        finish (handler_most u off) (omega arith) (comes_on second end left path (test_cost u e) (handler_most u off) c within) in
         ⊎_elim one_way other_way (test_comes e second at left path (has_front code.instrs at (expr_code e) (i.JumpZero second ∷ (body_code first on ++ (i.Jump end ∷ tail))) has) after.0 h)
     body_comes (Loop b p e body rest) d at left path has works h = absurd works
     body_comes (Turns b p n body rest) d at left path has works h =
@@ -280,7 +283,7 @@ module _ (u : Costs) (code : CodeValue) where
         let jump_at = has_rest code.instrs first jump (body_code first body) (i.Jump (at + 1) ∷ body_code end rest) (ap (λ j. first + j) (body_length body first)) (subst (λ z. HasAt code.instrs z (body_code first body ++ (i.Jump (at + 1) ∷ body_code end rest))) (sym places) has.1.1) in
         let body_at = has_front code.instrs first (body_code first body) (i.Jump (at + 1) ∷ body_code end rest) (subst (λ z. HasAt code.instrs z (body_code first body ++ (i.Jump (at + 1) ∷ body_code end rest))) (sym places) has.1.1) in
         let within : (more p : List ℕ) → HandlerFrom code (turn + 1) more p → Comes (turn + 1 + body_size body) more p (handler_most u body) =
-            λ more p k. comes_as (first + body_size body) (turn + 1 + body_size body) more p (handler_most u body) (handler_most u body) (omega arith) (omega arith) (body_comes body (d + 1) first more p body_at works.2 (subst (λ z. HandlerFrom code z more p) (sym places) k)) in
+        λ more p k. comes_as (first + body_size body) (turn + 1 + body_size body) more p (handler_most u body) (handler_most u body) (omega arith) (omega arith) (body_comes body (d + 1) first more p body_at works.2 (subst (λ z. HandlerFrom code z more p) (sym places) k)) in
         let jump_is : jump ≡ turn + 1 + body_size body = omega arith in
         let t = has.1.0 ∙ ap (λ j. Some (i.Turn (j + 1))) jump_is in
         let j = ap (λ z. slice_get code.instrs z) (sym jump_is) ∙ jump_at.0 in
@@ -387,14 +390,14 @@ module _ (u : Costs) (code : CodeValue) where
         let others = body_made more d end left rest more_at works.3 (subst (λ z. HandlerFrom code z left rest) last h) in
         let most = test_cost u e + max (handler_most u on + u Basic) (handler_most u off) + handler_most u more in
         let one_way : handler_most u off < handler_most u on + u Basic → Made at left rest most = λ lt.
-            let leaves = made_by (i.Jump end) jump end left left others.path jump_at.0 (refl, refl) others.is in
-            let within = body_made on d first left leaves.path (has_front code.instrs first (body_code first on) (i.Jump end ∷ tail) after.1) works.1 leaves.is in
-            let test = test_made e second at first left within.path test_at after.0 (inr refl) within.is in
-            record { path = test.path; is = test.is; sums = omega (arith, test.sums, within.sums, leaves.sums, others.sums, lt) } in
+        let leaves = made_by (i.Jump end) jump end left left others.path jump_at.0 (refl, refl) others.is in
+        let within = body_made on d first left leaves.path (has_front code.instrs first (body_code first on) (i.Jump end ∷ tail) after.1) works.1 leaves.is in
+        let test = test_made e second at first left within.path test_at after.0 (inr refl) within.is in
+        record { path = test.path; is = test.is; sums = omega (arith, test.sums, within.sums, leaves.sums, others.sums, lt) } in
         let other_way : handler_most u on + u Basic ≤ handler_most u off → Made at left rest most = λ le.
-            let within = body_made off d second left others.path (has_front code.instrs second (body_code second off) (body_code end more) jump_at.1) works.2 others.is in
-            let test = test_made e second at second left within.path test_at after.0 (inl refl) within.is in
-            record { path = test.path; is = test.is; sums = omega (arith, test.sums, within.sums, others.sums, le) } in
+        let within = body_made off d second left others.path (has_front code.instrs second (body_code second off) (body_code end more) jump_at.1) works.2 others.is in
+        let test = test_made e second at second left within.path test_at after.0 (inl refl) within.is in
+        record { path = test.path; is = test.is; sums = omega (arith, test.sums, within.sums, others.sums, le) } in
         ⊎_elim one_way other_way (cases_lt (handler_most u off) (handler_most u on + u Basic))
     body_made (Loop b p e body more) d at left rest has works h = absurd works
     body_made (Turns b p n body more) d at left rest has works h =
@@ -408,7 +411,7 @@ module _ (u : Costs) (code : CodeValue) where
         let body_at = has_front code.instrs first (body_code first body) (i.Jump turn ∷ body_code end more) inside in
         let jump_is : jump ≡ turn + 1 + body_size body = omega arith in
         let within : (others p : List ℕ) → HandlerFrom code (turn + 1 + body_size body) others p → Made (turn + 1) others p (handler_most u body) =
-            λ others p k. subst (λ z. Made z others p (handler_most u body)) (sym places) (body_made body (d + 1) first others p body_at works.2 (subst (λ z. HandlerFrom code z others p) (sym jump_is) k)) in
+        λ others p k. subst (λ z. Made z others p (handler_most u body)) (sym places) (body_made body (d + 1) first others p body_at works.2 (subst (λ z. HandlerFrom code z others p) (sym jump_is) k)) in
         let last : at + (2 + body_size body + 1 + body_size more) ≡ end + body_size more = omega arith in
         let others = body_made more d end left rest jump_at.1 works.3 (subst (λ z. HandlerFrom code z left rest) last h) in
         let turns = turns_made body turn (handler_most u body) n left others.path (has.1.0 ∙ ap (λ j. Some (i.Turn (j + 1))) jump_is) (ap (λ z. slice_get code.instrs z) (sym jump_is) ∙ jump_at.0) within (subst (λ z. HandlerFrom code (z + 1) left others.path) jump_is others.is) in

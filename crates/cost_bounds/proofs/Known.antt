@@ -1,6 +1,6 @@
 -- What a place is worth follows from what later places are worth.
-use Rattle.std.proofs.Common.{◌≡◌, ℕ, zero, suc, ◌+◌, ◌*◌, ◌^◌, ◌-◌, ◌<◌, ◌≤◌, Bool, true, false, List, [], ◌∷◌, length, take, Option, Some, None, refl, sym, ap, ◌∙◌, subst, arith}
-use Rattle.std.specs.Prelude.{min, max, pos, slice_get}
+use Rattle.std.proofs.Common.{◌≡◌, ℕ, zero, suc, ◌+◌, ◌*◌, ◌<◌, ◌≤◌, true, false, List, [], ◌∷◌, length, take, Some, None, refl, ap, ◌∙◌, subst, arith}
+use Rattle.std.specs.Prelude.{max, pos, slice_get}
 use Rattle.cat_program.specs.declared.syntax.Class.TheVariants.{Basic}
 use Rattle.cat_machine.specs.declared.instr.Instr.{Instr}
 use Rattle.cat_machine.specs.declared.instr.Instr.TheVariants as i
@@ -8,7 +8,7 @@ use Rattle.cat_machine.specs.ClassOf.{class_of}
 use Rattle.cat_machine.specs.CodeValue.{CodeValue}
 use Rattle.cat_machine.specs.Costs.{Costs, instr_cost, place_cost, path_cost}
 use Rattle.cost_bounds.specs.Paths.{acts, place_after, SectionFrom, Acts, GoesOn as SectionGoesOn}
-use Rattle.cost_bounds.specs.Pass.{most_number, capped, front_of, SumsTo, is_straight, Worth, AtEnd, TurnsBack, Leaves, Tests, Repeats, GoesOn, IsWorth}
+use Rattle.cost_bounds.specs.Pass.{most_number, capped, SumsTo, is_straight, Worth, AtEnd, TurnsBack, Leaves, Tests, Repeats, GoesOn, IsWorth}
 
 module _ (u : Costs) (code : CodeValue) (pc : ℕ) where
   pub end_worth : (m : ℕ) → slice_get code.instrs pc ≡ Some i.End → m ≡ u Basic → IsWorth u code pc m
@@ -168,6 +168,7 @@ module _ (u : Costs) (code : CodeValue) (from : ℕ) where
           let same : y ≡ x = cc in
           let here = ap (instr_cost u) e in
           (p, subst (λ z. SectionFrom code (place_after z pc) p) same more, omega (arith, is, here, whole, le), omega (arith, long))
+
       by : (path : List ℕ) → SectionFrom code from path → length path ≤ length code.instrs → Sum path ≤ most_number → (r : List ℕ) × SectionFrom code (place_after x pc) r × (sum' + Sum r ≡ Sum path) × (length r + (steps + 1) ≡ length path)
       by path s long le = let r = w.by path s long le in by_rest path r.0 r.1 r.2 r.3 le
 
@@ -177,6 +178,7 @@ module _ (u : Costs) (code : CodeValue) (from : ℕ) where
       by_rest : (path rest : List ℕ) → SectionFrom code pc rest → sum + Sum rest ≡ Sum path → Sum path ≤ most_number → sum' ≡ Sum path
       by_rest path rest (Acts y d s) whole le = omega (arith, is, ap (instr_cost u) e, whole, le)
       by_rest path rest (SectionGoesOn y d s more) whole le = let same : y ≡ x = cc in cc
+
       by : (path : List ℕ) → SectionFrom code from path → length path ≤ length code.instrs → Sum path ≤ most_number → sum' ≡ Sum path
       by path s long le = let r = w.by path s long le in by_rest path r.0 r.1 r.2 le
 

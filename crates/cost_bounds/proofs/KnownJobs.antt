@@ -1,6 +1,6 @@
 -- The same of jobs: units and ticks, each by itself.
-use Rattle.std.proofs.Common.{◌≡◌, ℕ, ◌+◌, ◌-◌, ◌*◌, ◌<◌, ◌≤◌, true, false, List, Some, None, refl, sym, ap, ◌∙◌, arith}
-use Rattle.std.specs.Prelude.{slice_get, length, take, pos}
+use Rattle.std.proofs.Common.{◌≡◌, ℕ, ◌+◌, ◌<◌, ◌≤◌, true, false, Some, None, refl, ap, ◌∙◌, arith}
+use Rattle.std.specs.Prelude.{slice_get, length, pos}
 use Rattle.cat_program.specs.declared.syntax.Class.{Class}
 use Rattle.nv_memory.specs.declared.device.Device.{Device}
 use Rattle.cat_machine.specs.declared.instr.Instr.{Instr}
@@ -10,8 +10,8 @@ use Rattle.cat_machine.specs.CodeValue.{CodeValue}
 use Rattle.cost_bounds.specs.declared.job.Job.{Job}
 use Rattle.cost_bounds.specs.Paths.{acts, place_after}
 use Rattle.cost_bounds.specs.Greatest.{units_of, ticks_of}
-use Rattle.cost_bounds.specs.Pass.{nothing, plus_capped, times_capped, dearer, class_job, front_of, SectionKnown, is_straight, HandlerKnown}
-use Rattle.cost_bounds.proofs.Known.{end_worth, jump_worth, test_worth, repeat_worth, straight_worth, acts_sums, goes_sums, none_sums, front_get, front_none, front_length, Walked, walk_starts, walk_goes, walk_acts, walk_leaves, walk_ends}
+use Rattle.cost_bounds.specs.Pass.{nothing, plus_capped, times_capped, dearer, class_job, SectionKnown, is_straight, HandlerKnown}
+use Rattle.cost_bounds.proofs.Known.{end_worth, jump_worth, test_worth, repeat_worth, straight_worth, acts_sums, goes_sums, none_sums, Walked, walk_starts, walk_goes, walk_acts, walk_leaves, walk_ends}
 
 module _ (device : Device) (code : CodeValue) where
   -- what one instruction takes

@@ -6,3 +6,5 @@ pub mod KnownJobs
 pub mod Worths
 pub mod Passing
 pub mod Ends
+pub mod Totals
+pub mod Made

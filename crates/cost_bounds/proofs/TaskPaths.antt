@@ -1,5 +1,5 @@
 -- The sections of the tasks' code: from each place there is one, and these are the greatest sums over them.
-use Rattle.std.proofs.Common.{◌≡◌, ℕ, zero, suc, ◌+◌, ◌<◌, ◌≤◌, Bool, true, false, List, [], ◌∷◌, ◌++◌, length, Some, refl, sym, ap, ◌∙◌, subst, arith, inl, inr}
+use Rattle.std.proofs.Common.{◌≡◌, ℕ, ◌+◌, ◌<◌, ◌≤◌, Bool, true, false, List, [], ◌∷◌, ◌++◌, length, Some, refl, sym, ap, ◌∙◌, subst, arith, inl, inr}
 use Rattle.std.specs.Prelude.{max, slice_get, ◌⊎◌}
 use Rattle.std.proofs.lemmas.Bool.{cases_lt}
 use Rattle.cat_program.specs.declared.syntax.Expr.{Expr, Number, Payload, Word, Element', Signed', Chain', Row_of-Further, end_of-Further, more_of-Further}
@@ -12,7 +12,7 @@ use Rattle.cat_machine.specs.declared.instr.Instr.TheVariants as i
 use Rattle.cat_machine.specs.ClassOf.{class_of}
 use Rattle.cat_machine.specs.CodeValue.{CodeValue}
 use Rattle.cat_machine.specs.Code.{expr_code, chain_code, operands_code, simple_instr, body_code, task_code, tasks_code}
-use Rattle.cat_machine.specs.Costs.{Costs, code_cost, instr_cost, place_cost, path_cost, simple_cost, test_cost, first_cost, section_most, task_most, tasks_most}
+use Rattle.cat_machine.specs.Costs.{Costs, code_cost, instr_cost, place_cost, path_cost, test_cost, first_cost, section_most, task_most, tasks_most}
 use Rattle.cat_machine.proofs.At.{HasAt, has_front, has_rest}
 use Rattle.cat_machine.proofs.Sizes.{operands_length, body_length}
 use Rattle.cat_machine.proofs.Expressions.{expr_length}
@@ -196,9 +196,11 @@ module _ (u : Costs) (code : CodeValue) where
         let last : at + (n + 1 + body_size on + body_size rest) ≡ end + body_size rest = omega arith in
         let rest_at = has_rest code.instrs first end (body_code first on) (body_code end rest) (ap (λ j. first + j) (body_length on first)) after.1 in
         let others = body_most rest end c rest_at works.2 (sums_as _ _ c c last refl s) in
-        let within = body_most on first (first_cost u rest c) (has_front code.instrs first (body_code first on) _ after.1) works.1 others.0 in
-        (test.0, renamed at (end + body_size rest) _ _ _ (sym last) refl
-          (joined at first (end + body_size rest) _ _ (omega arith) (omega arith) test.1 (joined first end (end + body_size rest) _ _ (omega arith) (omega arith) within.1 others.1)))
+        let within = body_most on first (first_cost u rest c) (has_front code.instrs first (body_code first on) _ after.1) works.1 others.0 in (
+          test.0,
+          renamed at (end + body_size rest) _ _ _ (sym last) refl
+              (joined at first (end + body_size rest) _ _ (omega arith) (omega arith) test.1 (joined first end (end + body_size rest) _ _ (omega arith) (omega arith) within.1 others.1)),
+        )
     body_most (Choice b p e on off rest) at c has works s =
         let n = expr_size e in
         let first = at + n + 1 in
@@ -213,12 +215,14 @@ module _ (u : Costs) (code : CodeValue) where
         let others = body_most rest end c rest_at works.3 (sums_as _ _ c c last refl s) in
         let leaves = jump_sums jump end (first_cost u rest c) jump_at.0 others.0 in
         let one_way = body_most on first (u Basic + first_cost u rest c) (has_front code.instrs first (body_code first on) _ after.1) works.1 leaves in
-        let other_way = body_most off second (first_cost u rest c) (has_front code.instrs second (body_code second off) _ jump_at.1) works.2 others.0 in
-        (test.0, renamed at (end + body_size rest) _ _ _ (sym last) refl
-          (joined at first (end + body_size rest) _ _ (omega arith) (omega arith) test.1
-          (joined first jump (end + body_size rest) _ _ (omega arith) (omega arith) one_way.1
-          (joined jump second (end + body_size rest) _ _ (omega arith) (omega arith) (one jump _ leaves)
-          (joined second end (end + body_size rest) _ _ (omega arith) (omega arith) other_way.1 others.1)))))
+        let other_way = body_most off second (first_cost u rest c) (has_front code.instrs second (body_code second off) _ jump_at.1) works.2 others.0 in (
+          test.0,
+          renamed at (end + body_size rest) _ _ _ (sym last) refl
+              (joined at first (end + body_size rest) _ _ (omega arith) (omega arith) test.1
+              (joined first jump (end + body_size rest) _ _ (omega arith) (omega arith) one_way.1
+              (joined jump second (end + body_size rest) _ _ (omega arith) (omega arith) (one jump _ leaves)
+              (joined second end (end + body_size rest) _ _ (omega arith) (omega arith) other_way.1 others.1)))),
+        )
     body_most (Loop b p e body rest) at c has works s =
         let n = expr_size e in
         let first = at + n + 1 in
@@ -230,11 +234,13 @@ module _ (u : Costs) (code : CodeValue) where
         let jump_at = has_rest code.instrs first jump (body_code first body) (i.Jump at ∷ body_code end rest) (ap (λ j. first + j) (body_length body first)) after.1 in
         let others = body_most rest end c jump_at.1 works.2 (sums_as _ _ c c last refl s) in
         let back = jump_sums jump at (test_cost u e) jump_at.0 test.0 in
-        let within = body_most body first (u Basic + test_cost u e) (has_front code.instrs first (body_code first body) _ after.1) works.1 back in
-        (test.0, renamed at (end + body_size rest) _ _ _ (sym last) refl
-          (joined at first (end + body_size rest) _ _ (omega arith) (omega arith) test.1
-          (joined first jump (end + body_size rest) _ _ (omega arith) (omega arith) within.1
-          (joined jump end (end + body_size rest) _ _ (omega arith) (omega arith) (one jump _ back) others.1))))
+        let within = body_most body first (u Basic + test_cost u e) (has_front code.instrs first (body_code first body) _ after.1) works.1 back in (
+          test.0,
+          renamed at (end + body_size rest) _ _ _ (sym last) refl
+              (joined at first (end + body_size rest) _ _ (omega arith) (omega arith) test.1
+              (joined first jump (end + body_size rest) _ _ (omega arith) (omega arith) within.1
+              (joined jump end (end + body_size rest) _ _ (omega arith) (omega arith) (one jump _ back) others.1))),
+        )
     body_most (Turns b p k body rest) at c has works s = absurd works
 
     task_places : (body : Body) (at t : ℕ) → HasAt code.instrs at (task_code at t body) → TaskWorks words posts body → Most at (at + task_size body) (task_most u body)

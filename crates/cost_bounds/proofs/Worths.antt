@@ -1,7 +1,6 @@
 -- What the entry of a handler is worth.
-use Rattle.std.proofs.Common.{◌≡◌, ℕ, ◌+◌, ◌*◌, ◌<◌, ◌≤◌, true, List, [], ◌∷◌, ◌++◌, length, Some, refl, sym, ap, ◌∙◌, subst, arith}
-use Rattle.std.specs.Prelude.{max, slice_get, pos}
-use Rattle.cat_program.specs.declared.syntax.Expr.{Expr}
+use Rattle.std.proofs.Common.{◌≡◌, ℕ, ◌+◌, ◌*◌, true, List, [], ◌∷◌, ◌++◌, length, refl, sym, ap, subst, arith}
+use Rattle.std.specs.Prelude.{max, pos}
 use Rattle.cat_program.specs.declared.syntax.Class.TheVariants.{Basic}
 use Rattle.cat_program.specs.Body.{Simple, SetWord, SetElement, Emit, Raise, Body, Empty, Plain, When, Choice, Loop, Turns}
 use Rattle.cat_program.specs.Places.{expr_size, operands_size, body_size}
@@ -15,7 +14,7 @@ use Rattle.cat_machine.specs.Costs.{Costs, code_cost, simple_cost, test_cost, ha
 use Rattle.cat_machine.proofs.At.{HasAt, has_front, has_rest}
 use Rattle.cat_machine.proofs.Sizes.{operands_length, body_length}
 use Rattle.cat_machine.proofs.Expressions.{expr_length}
-use Rattle.cost_bounds.specs.Pass.{is_straight, Worth, AtEnd, TurnsBack, Leaves, Tests, Repeats, GoesOn}
+use Rattle.cost_bounds.specs.Pass.{is_straight, Worth, TurnsBack, Leaves, Tests, Repeats, GoesOn}
 use Rattle.cost_bounds.proofs.TaskPaths.{works_out, AllWorkOut, expr_works_out, operands_work_out}
 
 works_straight : (x : Instr) → works_out x ≡ true → is_straight x ≡ true

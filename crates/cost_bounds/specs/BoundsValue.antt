@@ -1,5 +1,5 @@
 -- Bounds, as contracts see them.
-use Rattle.std.specs.Prelude.{ℕ, ◌+◌, ◌*◌, ◌<◌, max, List, [], length, map, Option, slice_get, unwrap_or, Vec}
+use Rattle.std.specs.Prelude.{ℕ, ◌<◌, max, List, [], length, map, Option, slice_get, unwrap_or, Vec}
 use Rattle.std.specs.Global.{Global}
 use Rattle.cost_bounds.specs.declared.job.Job.{Job}
 
@@ -10,8 +10,11 @@ pub record BoundsValue : Type 0 where
   pub checkpoint : Job
   pub wake : Job
 
+abbrev pub jobs_of : List (Vec Job Global) → List (List Job)
+jobs_of = map (λ (v : Vec Job Global). v.items)
+
 abbrev pub bounds_by : List (Vec Job Global) → Job → Job → Job → BoundsValue
-bounds_by jobs section checkpoint wake = record { jobs = map (λ (v : Vec Job Global). v.items) jobs; section = section; checkpoint = checkpoint; wake = wake }
+bounds_by jobs section checkpoint wake = record { jobs = jobs_of jobs; section = section; checkpoint = checkpoint; wake = wake }
 
 abbrev pub versions_in : BoundsValue → ℕ → List Job
 versions_in b event = unwrap_or (slice_get b.jobs event) []

@@ -1,7 +1,7 @@
 -- The greatest sums over the paths of a program's code.
 use Rattle.std.specs.Prelude.{◌≡◌, ℕ, ◌+◌, ◌*◌, ◌≤◌, ◌⊎◌, ℤ, List, length, map, Some}
 use Rattle.cat_program.specs.declared.syntax.Class.TheVariants.{Basic, Memory, Out}
-use Rattle.cat_program.specs.Checked.{Checked, HasVersion}
+use Rattle.cat_program.specs.Checked.{Checked}
 use Rattle.nv_memory.specs.declared.device.Device.{Device}
 use Rattle.nv_memory.specs.declared.device.Cost.{Cost}
 use Rattle.cat_machine.specs.declared.instr.Mode.TheVariants.{Task, Handler}

@@ -1,14 +1,16 @@
 -- What a backward pass over code works out for each place.
-use Rattle.std.specs.Prelude.{◌≡◌, ℕ, suc, ◌+◌, ◌-◌, ◌*◌, ◌^◌, ◌<◌, ◌≤◌, min, max, Bool, true, false, pos, List, length, take, Some, slice_get, unwrap_or}
+use Rattle.std.specs.Prelude.{◌≡◌, ℕ, ◌+◌, ◌-◌, ◌*◌, ◌^◌, ◌<◌, ◌≤◌, ◌⊎◌, min, max, Bool, true, false, pos, List, length, map, take, Some, slice_get, unwrap_or}
 use Rattle.cat_program.specs.declared.syntax.Class.{Class}
 use Rattle.cat_program.specs.declared.syntax.Class.TheVariants.{Basic}
 use Rattle.nv_memory.specs.declared.device.Device.{Device}
+use Rattle.nv_memory.specs.declared.device.Cost.{Cost}
 use Rattle.cat_machine.specs.declared.instr.Instr.{Instr}
 use Rattle.cat_machine.specs.declared.instr.Instr.TheVariants.{Push, Jump, JumpZero, Turn, End}
 use Rattle.cat_machine.specs.ClassOf.{class_of}
 use Rattle.cat_machine.specs.CodeValue.{CodeValue}
 use Rattle.cat_machine.specs.Costs.{Costs, place_cost, path_cost}
 use Rattle.cost_bounds.specs.declared.job.Job.{Job}
+use Rattle.cost_bounds.specs.BoundsValue.{BoundsValue}
 use Rattle.cost_bounds.specs.Paths.{SectionFrom}
 use Rattle.cost_bounds.specs.Greatest.{units_of, ticks_of}
 
@@ -87,3 +89,37 @@ pub record PlaceKnown (device : Device) (code : CodeValue) (tasks pc : ℕ) (job
 
 abbrev pub AllKnown : Device → CodeValue → ℕ → ℕ → List Job → Type 0
 AllKnown device code tasks from jobs = (pc : ℕ) → from ≤ pc → PlaceKnown device code tasks pc (job_in jobs pc)
+
+-- ---- the jobs of all versions, and of a section
+
+-- the greatest of these, or 0 where there is none that is greater
+pub record IsTop (f : Job → ℕ) (jobs : List Job) (m : ℕ) : Type 0 where
+  pub upper : (k : ℕ) → k < length jobs → f (job_in jobs k) ≤ m
+  pub reached : ((k : ℕ) × (k < length jobs) × (f (job_in jobs k) ≡ m)) ⊎ (m ≡ 0)
+
+pub record IsDearest (jobs : List Job) (job : Job) : Type 0 where
+  pub units : IsTop (λ j. j.units) jobs job.units
+  pub ticks : IsTop (λ j. j.ticks) jobs job.ticks
+
+abbrev pub entry_job : Job → List Job → ℕ → Job
+entry_job around most entry = plus_capped around (job_in most entry)
+
+abbrev pub entry_jobs : Job → List Job → List (List ℕ) → List (List Job)
+entry_jobs around most versions = map (λ (entries : List ℕ). map (entry_job around most) entries) versions
+
+abbrev pub cost_job : Cost → Job
+cost_job cost = record { units = cost.bound; ticks = cost.ticks }
+
+-- what stands around a handler: the wake, and the writes
+abbrev pub around_job : Device → ℕ → Job
+around_job device lines = plus_capped (cost_job device.wake) (times_capped (cost_job device.write) (lines + 2))
+
+-- the bounds by what is known of the places
+pub record AreMade (code : CodeValue) (device : Device) (lines tasks : ℕ) (b : BoundsValue) : Type 0 where
+  pub most : List Job
+  pub all : length most ≡ length code.instrs
+  pub known : AllKnown device code tasks 0 most
+  pub jobs : b.jobs ≡ entry_jobs (around_job device lines) most code.versions
+  pub section : IsDearest (take tasks most) b.section
+  pub checkpoint : b.checkpoint ≡ times_capped (cost_job device.write) (lines + 1)
+  pub wake : b.wake ≡ cost_job device.wake

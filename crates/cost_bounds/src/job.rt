@@ -66,7 +66,18 @@ impl Model for Bounds {
 }
 
 impl Bounds {
-    ghost use Rattle.cost_bounds.specs.BoundsValue.{HasJob, job_at, longest_of};
+    ghost use Rattle.cost_bounds.specs.BoundsValue.{HasJob, bounds_by, job_at, longest_of};
+
+    pub(crate) fn of(jobs: Vec<Vec<Job>>, section: Job, checkpoint: Job, wake: Job) -> Bounds
+        ensures { result ≡ bounds_by jobs.items section checkpoint wake }
+    {
+        Bounds {
+            jobs,
+            section,
+            checkpoint,
+            wake,
+        }
+    }
 
     /// What a whole job of a version takes: a wake, its handler, and the writes that save its result.
     pub fn job(&self, event: u8, version: u8) -> Job
@@ -108,5 +119,12 @@ impl Bounds {
             .max(self.checkpoint.ticks)
             .max(self.wake.ticks)
             .max(1)
+    }
+}
+
+#[cfg(test)]
+impl Bounds {
+    pub(crate) fn jobs(&self) -> &[Vec<Job>] {
+        self.jobs.as_slice()
     }
 }

@@ -5,8 +5,10 @@ mod job;
 mod laws;
 mod pass;
 mod place;
+#[cfg(test)]
+mod tests;
 mod total;
 
 pub use job::{Bounds, Job};
-pub use laws::runs_within_law;
+pub use laws::{runs_within_law, versions_have_jobs_law};
 pub use total::bounds;

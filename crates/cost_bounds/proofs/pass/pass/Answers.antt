@@ -1,4 +1,4 @@
-use Rattle.std.proofs.Common.{◌∙◌, sym, length, arith}
+use Rattle.std.proofs.Common.{arith}
 use Rattle.cost_bounds.proofs.Passing.{passed_starts, passed_later, passed_goes, passed_ends}
 use Rattle.cost_bounds.proofs.pass.pass.Goals as goal
 

@@ -1,4 +1,4 @@
-use Rattle.std.proofs.Common.{◌≡◌, ◌<◌, Some, None, length, sym, ap, ◌∙◌, arith, subst, ℕ}
+use Rattle.std.proofs.Common.{length, sym, ap, ◌∙◌, arith}
 use Rattle.std.specs.Prelude.{slice_get}
 use Rattle.cat_machine.specs.CodeValue.{CodeValue, versions_at}
 use Rattle.cost_bounds.proofs.Ends.{end_without_events, end_at_first, end_somewhere}

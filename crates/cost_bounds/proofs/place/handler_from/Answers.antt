@@ -1,5 +1,4 @@
-use Rattle.std.proofs.Common.{◌≡◌, ◌<◌, ◌+◌, Some, sym, ap, ◌∙◌, length, arith, subst}
-use Rattle.cat_machine.specs.declared.instr.Instr.TheVariants as i
+use Rattle.std.proofs.Common.{◌+◌, Some, sym, ap, ◌∙◌, arith, subst}
 use Rattle.cat_machine.specs.ClassOf.{class_of}
 use Rattle.cost_bounds.specs.Pass.{HandlerKnown}
 use Rattle.cost_bounds.proofs.KnownJobs.{leaves, tests, repeats, goes_straight, straight_of}

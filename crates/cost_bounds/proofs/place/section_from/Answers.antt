@@ -1,6 +1,5 @@
-use Rattle.std.proofs.Common.{◌≡◌, ◌<◌, ◌+◌, Some, sym, ap, ◌∙◌, length, arith, subst}
-use Rattle.cost_bounds.specs.Paths.{place_after}
-use Rattle.cost_bounds.specs.Pass.{front_of, job_in, SectionKnown}
+use Rattle.std.proofs.Common.{sym, ◌∙◌, subst}
+use Rattle.cost_bounds.specs.Pass.{front_of, SectionKnown}
 use Rattle.cost_bounds.proofs.Known.{front_get}
 use Rattle.cost_bounds.proofs.KnownJobs.{section_acts, section_goes}
 use Rattle.cost_bounds.proofs.place.section_from.Goals as goal

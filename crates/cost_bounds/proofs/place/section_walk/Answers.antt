@@ -1,4 +1,4 @@
-use Rattle.std.proofs.Common.{◌≤◌, ◌<◌, ◌+◌, sym, ◌∙◌, length, arith, subst}
+use Rattle.std.proofs.Common.{◌+◌, sym, ◌∙◌, arith, subst}
 use Rattle.cost_bounds.specs.Pass.{front_of}
 use Rattle.cost_bounds.proofs.Known.{front_get, front_none, front_length}
 use Rattle.cost_bounds.proofs.KnownJobs.{Walking, walking_starts, walking_goes, walking_acts, walking_leaves, walking_ends}
