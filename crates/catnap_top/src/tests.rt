@@ -46,7 +46,7 @@ fn runs_sources(rt: HostRuntime) -> Result<(), Fail> {
         (S1, "1000000", 0, "out 1 1\nsteps 4\n"),
         (least, "9", 0, "out 255 0\nsteps 3\n"),
         (turns, "9", 0, "out 1 2\nsteps 9\n"),
-        (turns, "99", 0, "out 1 2\nout 2 1\nsteps 12\n"),
+        (turns, "99", 0, "out 1 2\nout 2 1\nsteps 13\n"),
         (S1, "00000003", 2, "fault usage\n"),
         (S1, "1000001", 2, "fault usage\n"),
         (S1, "", 2, "fault usage\n"),
