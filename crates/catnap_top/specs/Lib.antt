@@ -1,12 +1,10 @@
 pub mod Answer
 pub mod Statuses
 pub mod Words
-pub mod Small
 pub mod Refusals
-pub mod After
-pub mod Exact
-pub mod Machine
+pub mod Source
 pub mod Run
+pub mod ReadyValue
 pub mod Prepared
 pub mod Reply
 pub mod Reads
