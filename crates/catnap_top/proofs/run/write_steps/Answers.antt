@@ -5,7 +5,7 @@ use Rattle.cat_program.specs.Checked.{body_at}
 use Rattle.cat_eval.specs.Cursor.{state_of}
 use Rattle.catnap_top.specs.Run.{answers}
 use Rattle.catnap_top.proofs.Running.{left_go, left_stop, answers_done, goes, out_more, run_cut, run_ends}
-use Rattle.catnap_top.proofs.run.write_run.Goals as goal
+use Rattle.catnap_top.proofs.run.write_steps.Goals as goal
 
 pub returns-then-not-is_step-clause-text : goal.returns-then-not-is_step-clause-text
 returns-then-not-is_step-clause-text g c =

@@ -3,7 +3,7 @@ use Rattle.std.specs.Io.KnownBytes.{append_known}
 use Rattle.cat_program.specs.Checked.{body_at}
 use Rattle.cat_eval.specs.Cursor.{state_of, Fits}
 use Rattle.catnap_top.specs.Run.{answers, out_lines}
-use Rattle.catnap_top.proofs.run.write_run.Given as goal
+use Rattle.catnap_top.proofs.run.write_steps.Given as goal
 
 abbrev pub invariant-loop-taken : goal.invariant-loop-taken
 invariant-loop-taken g l =
