@@ -4,8 +4,8 @@ use Rattle.cat_program.specs.Checked as program
 use Rattle.cat_program.specs.Checked.{Checked}
 use Rattle.cat_conditions.specs.Conditions.{IsChecked}
 use Rattle.cat_resolve.specs.Program.{IsProgramOf}
-use Rattle.cat_resolve.proofs.HeaderWorks.{HeaderWorks, header_works}
-use Rattle.cat_resolve.proofs.Working.{BodiesWork, bodies_work}
+use Rattle.cat_resolve.proofs.HeaderWorks.{header_works}
+use Rattle.cat_resolve.proofs.Working.{bodies_work}
 
 pub is_checked : (tree : Tree) (p : Checked) → IsChecked tree → IsProgramOf tree p → program.IsChecked p
 is_checked tree p checked of =

@@ -15,7 +15,6 @@ use Rattle.cat_conditions.specs.Pieces.{Piece, an_item, a_statement, an_expressi
 use Rattle.cat_conditions.specs.Offences.{At, NoneOf}
 use Rattle.cat_conditions.specs.Names.{Name, Sorts, declarations, sort_of}
 use Rattle.cat_conditions.specs.Types.{is_event, has_wrong_type}
-use Rattle.cat_conditions.specs.Local.{is_out_of_range}
 use Rattle.cat_conditions.specs.Counts.{versions_of, mentioned}
 use Rattle.cat_conditions.specs.Conditions.{DegradesTooOften, IsChecked}
 use Rattle.cat_resolve.specs.declared.names.Meaning.{Meaning}
@@ -24,7 +23,7 @@ use Rattle.cat_resolve.specs.Names.{Meanings, names_of}
 use Rattle.cat_resolve.specs.Header.{word_count, task_count, event_count}
 use Rattle.cat_resolve.specs.Content.{event_number, item_mentions, mentions_in}
 use Rattle.cat_resolve.proofs.ByItem.{ListOfItemsAlone, flat_item, EachFails, each_fails}
-use Rattle.cat_resolve.proofs.Sorts.{StandsFor, IsEvent, stands}
+use Rattle.cat_resolve.proofs.Sorts.{StandsFor, IsEvent, names_stand}
 
 -- ---- what is mentioned is an event
 
@@ -79,11 +78,9 @@ all_mention_events words tasks events sorts names agree (i ∷ items) right =
 pub mention_events : (tree : Tree) → IsChecked tree → AllMentionEvents (names_of tree.items) (event_count tree.items) tree.items
 mention_events tree checked =
     let items = tree.items in
-    let range = each_fails is_out_of_range items checked.0 in
     let sorts = sort_of (declarations (items_pieces items)) in
     let right = each_fails (has_wrong_type sorts) items checked.1.1.1.1.1.1.1.0 in
-    all_mention_events (word_count items) (task_count items) (event_count items) sorts (names_of items)
-    (λ x. stands (word_count items) (task_count items) (event_count items) 0 0 0 x items range (omega arith) (omega arith) (omega arith)) items right
+    all_mention_events (word_count items) (task_count items) (event_count items) sorts (names_of items) (names_stand tree checked) items right
 
 numbers_below : (names : Meanings) (events : ℕ) (xs : List Name) (more : List ℕ) → EachIsEvent names events xs → EachBelow events more
     → EachBelow events (map (λ x. event_number (names x)) xs ++ more)

@@ -6,16 +6,18 @@ use Rattle.std.specs.Cmp.Lexicographic.{bytes_decides}
 use Rattle.std.proofs.lemmas.Bool.{cases_Bool, cond-true, cond-false, both_ways, false_from_ne_true, not-false, and_parts, leb-true}
 use Rattle.cn_base.specs.declared.tree.Item.{Item}
 use Rattle.cn_base.specs.declared.tree.Item.TheVariants as item
+use Rattle.cn_base.specs.declared.tree.Tree.{Tree}
 use Rattle.cat_conditions.specs.declared.sort.Sort.{Sort}
 use Rattle.cat_conditions.specs.declared.sort.Sort.TheVariants as sort
-use Rattle.cat_conditions.specs.Pieces.{an_item, a_statement, an_expression, items_pieces}
+use Rattle.cat_conditions.specs.Pieces.{an_item, a_statement, an_expression, items_pieces, pieces}
 use Rattle.cat_conditions.specs.Local.{is_within, is_out_of_range}
 use Rattle.cat_conditions.specs.Names.{Name, Declared, item_declaration, declaration, declarations, sort_of}
+use Rattle.cat_conditions.specs.Conditions.{IsChecked}
 use Rattle.cat_resolve.specs.declared.names.Meaning.{Meaning}
 use Rattle.cat_resolve.specs.declared.names.Meaning.TheVariants as meaning
-use Rattle.cat_resolve.specs.Names.{first_of, of_name, words_of, tasks_of, events_of, declared_by, names_from}
+use Rattle.cat_resolve.specs.Names.{first_of, of_name, words_of, tasks_of, events_of, declared_by, names_from, names_of}
 use Rattle.cat_resolve.specs.Header.{word_count, task_count, event_count}
-use Rattle.cat_resolve.proofs.ByItem.{OfItemsAlone, filter_item, EachFails}
+use Rattle.cat_resolve.proofs.ByItem.{OfItemsAlone, filter_item, EachFails, each_fails}
 
 -- ---- tests of names and numbers
 
@@ -101,3 +103,11 @@ stands words tasks events w t e x (i ∷ items) range a b c =
     subst (λ (ds : Declared). StandsFor words tasks events (sort_of ds x) (names_from w t e (i ∷ items) x)) (sym (filter_item declaration declaration_alone i items))
     (item_stands words tasks events w t e x i (declarations (items_pieces items)) (names_from (w + words_of i) (t + tasks_of i) (e + events_of i) items x) range.0
     (omega (arith, a)) (omega (arith, b)) (omega (arith, c)) rest)
+
+-- each name of a source that meets the conditions
+pub names_stand : (tree : Tree) → IsChecked tree → (x : Name)
+    → StandsFor (word_count tree.items) (task_count tree.items) (event_count tree.items) (sort_of (declarations (pieces tree)) x) (names_of tree.items x)
+names_stand tree checked x =
+    let items = tree.items in
+    let range = each_fails is_out_of_range items checked.0 in
+    stands (word_count items) (task_count items) (event_count items) 0 0 0 x items range (omega arith) (omega arith) (omega arith)

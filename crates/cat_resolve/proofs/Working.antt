@@ -190,7 +190,7 @@ bodies_work tree p checked of =
     let words : length p.words ≡ word_count tree.items = ap length of.words ∙ words_length tree.items in
     let tasks : length p.tasks ≡ task_count tree.items = ap length of.tasks ∙ bodies_length names 0 tree.items in
     let known : Knows sorts names (length p.words) (length p.tasks) =
-    subst (λ w. Knows sorts names w (length p.tasks)) (sym words) (subst (Knows sorts names (word_count tree.items)) (sym tasks) (names_known sorts tree.items fine)) in
+    subst (λ w. Knows sorts names w (length p.tasks)) (sym words) (subst (Knows sorts names (word_count tree.items)) (sym tasks) (names_known tree checked)) in
     let whole : StandAt (commands blocks) 0 (blocks_from names 0 tree.items) = subst (StandAt (commands blocks) 0) of.blocks (all_stand (commands blocks)) in
     let count : length (blocks_from names 0 tree.items) ≡ length blocks = sym (ap length of.blocks) ∙ length-map blocks _ in
     let fits : 0 + length (blocks_from names 0 tree.items) ≤ length blocks = omega (arith, count) in

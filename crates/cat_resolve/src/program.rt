@@ -18,7 +18,7 @@ use std::alloc::{AllocError, Global};
 /// declares.
 ///
 /// The source must be small, as the conditions say: at most 1,024 words, 16 tasks, 16 events with 4 versions each, and fewer than
-/// 2^32 blocks; `proofs/Small.antt` has that each source that meets the conditions is so. What else they rule out is resolved all
+/// 2^32 blocks; `checked_law` has that each source that meets the conditions is so. What else they rule out is resolved all
 /// the same: a name that stands for nothing, or not for what is needed there, as word, task or event 0 (an array as one without
 /// words), a channel above 255 as 255, and a count of a repeat above 65,535 as 65,535. A `start` of such a name counts for no task.
 ///

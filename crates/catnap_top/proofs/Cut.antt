@@ -3,12 +3,14 @@ use Rattle.std.proofs.Common.{◌≡◌, ℕ, ◌+◌, ◌<◌, ◌≤◌, List,
 use Rattle.std.proofs.lemmas.List.{take_all, length-take}
 use Rattle.std.proofs.lemmas.Bool.{cases_lt}
 use Rattle.catnap_top.specs.declared.words.Form.{Form}
-use Rattle.catnap_top.specs.declared.words.Form.TheVariants.{Run}
+use Rattle.catnap_top.specs.declared.words.Form.TheVariants.{Run, List as Listing}
 use Rattle.catnap_top.specs.Answer.{Answer, most_bytes}
 use Rattle.cat_program.specs.Checked.{Checked}
 use Rattle.catnap_top.specs.declared.refusal.SourceFault.{SourceFault}
 use Rattle.catnap_top.specs.Source.{most_source, IsSourceOf, IsRefused, too_long, no_tokens, no_tree, unchecked}
 use Rattle.catnap_top.specs.Run.{RunCallsFor, refuses, runs}
+use Rattle.catnap_top.specs.Listed.{ListCallsFor, lists}
+use Rattle.catnap_top.specs.Listed as list
 use Rattle.catnap_top.specs.Reply.{CallsFor}
 
 abbrev pub front : List ℕ → List ℕ
@@ -43,7 +45,21 @@ run_cut steps file due h =
       | inr le ↦ subst (λ f. RunCallsFor steps f due) (front_short file le) h
     ]
 
+list_long : (file : List ℕ) (due : Answer) → most_bytes < length file → most_bytes < length (front file)
+    → ListCallsFor (front file) due → ListCallsFor file due
+list_long file due lt more (list.refuses kind is e) = list.refuses kind (refused_long file kind lt more is) e
+list_long file due lt more (lists p is e) = absurd (not_long file p more is)
+
+pub list_cut : (file : List ℕ) (due : Answer) → ListCallsFor (front file) due → ListCallsFor file due
+list_cut file due h =
+    elim (cases_lt most_bytes (length file)) [
+      | inl lt ↦ list_long file due lt (front_long file lt) h
+      | inr le ↦ subst (λ f. ListCallsFor f due) (front_short file le) h
+    ]
+
 pub form_cut : (form : Form) (bytes : List (List ℕ)) (due : Answer)
     → CallsFor form (map (λ file. take (most_bytes + 1) file) bytes) due → CallsFor form bytes due
 form_cut (Run steps) [] due h = h
 form_cut (Run steps) (x ∷ xs) due h = run_cut steps x due h
+form_cut Listing [] due h = h
+form_cut Listing (x ∷ xs) due h = list_cut x due h

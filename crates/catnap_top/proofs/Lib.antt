@@ -7,3 +7,4 @@ pub mod Own
 pub mod ReadMore
 pub mod Running
 mod Refusing
+pub mod Stopping

@@ -5,7 +5,8 @@ pub mod Refusals
 pub mod Source
 pub mod Run
 pub mod ReadyValue
-pub mod Prepared
+pub mod Listed
+pub mod CompiledValue
 pub mod Reply
 pub mod Reads
 pub mod Course

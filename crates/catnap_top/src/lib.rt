@@ -1,7 +1,9 @@
 //! The top call: words, inputs and a sink in, a status out.
 #![tactic(auto)]
 
+mod compiled;
 mod line;
+mod list;
 mod reading;
 mod ready;
 mod refusal;
