@@ -179,11 +179,11 @@ pub whole_short : (p : Checked) (middle all : List Instr) → IsChecked p → mi
 whole_short p middle all checked m a =
     omega (arith, checked.short, ap length m, tasks_code_length (bodies_of p) 0 0, ap length a, length-append middle (events_code (length middle) (versions_of p)), events_length (versions_of p) (length middle))
 
-tasks_entries_length : (bodies : List Body) (at : ℕ) → length (tasks_entries at bodies) ≡ length bodies
+pub tasks_entries_length : (bodies : List Body) (at : ℕ) → length (tasks_entries at bodies) ≡ length bodies
 tasks_entries_length [] at = refl
 tasks_entries_length (body ∷ bodies) at = ap suc (tasks_entries_length bodies (at + task_size body))
 
-events_entries_length : (events : List (List Body)) (at : ℕ) → length (events_entries at events) ≡ length events
+pub events_entries_length : (events : List (List Body)) (at : ℕ) → length (events_entries at events) ≡ length events
 events_entries_length [] at = refl
 events_entries_length (event ∷ events) at = ap suc (events_entries_length events (at + versions_size event))
 

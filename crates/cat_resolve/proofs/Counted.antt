@@ -1,5 +1,5 @@
 -- The counts of a program's parts, and where its variables stand.
-use Rattle.std.proofs.Common.{◌≡◌, ℕ, ◌+◌, ◌≤◌, Bool, true, false, List, [], ◌∷◌, ◌++◌, length, Option, Some, None, refl, ap, sym, ◌∙◌, subst, arith, length-append}
+use Rattle.std.proofs.Common.{◌≡◌, ℕ, ◌+◌, ◌≤◌, List, [], ◌∷◌, ◌++◌, length, Option, Some, None, refl, ap, sym, ◌∙◌, arith, length-append}
 use Rattle.std.specs.Prelude.{replicate}
 use Rattle.std.proofs.lemmas.List.{length-replicate, length-set}
 use Rattle.cn_base.specs.declared.tree.Item.{Item}
@@ -10,7 +10,7 @@ use Rattle.cat_conditions.specs.Conditions.{IsChecked}
 use Rattle.cat_resolve.specs.declared.names.Meaning.{Meaning}
 use Rattle.cat_resolve.specs.declared.names.Meaning.TheVariants as meaning
 use Rattle.cat_resolve.specs.Names.{Meanings, names_of, words_of, tasks_of, events_of}
-use Rattle.cat_resolve.specs.Header.{item_words, words_in, item_tasks, tasks_in, item_events, events_in, word_count, task_count, event_count, IsSmall}
+use Rattle.cat_resolve.specs.Header.{item_words, words_in, item_tasks, tasks_in, word_count, task_count, event_count}
 use Rattle.cat_resolve.specs.Content.{item_blocks, item_bodies, bodies_from, item_versions, versions_from, posted, item_started, started_from}
 use Rattle.cat_resolve.specs.Program.{IsProgramOf}
 use Rattle.cat_resolve.proofs.Small.{is_small}
@@ -24,7 +24,7 @@ item_words_length (item.Event x t d vs) = refl
 item_words_length (item.Degrade xs) = refl
 item_words_length (item.Start x) = refl
 
-words_length : (items : List Item) → length (words_in items) ≡ word_count items
+pub words_length : (items : List Item) → length (words_in items) ≡ word_count items
 words_length [] = refl
 words_length (i ∷ items) =
     let a : length (item_words i ++ words_in items) ≡ length (item_words i) + length (words_in items) = length-append (item_words i) (words_in items) in
@@ -58,7 +58,7 @@ item_bodies_length names k (item.Event x t d vs) = refl
 item_bodies_length names k (item.Degrade xs) = refl
 item_bodies_length names k (item.Start x) = refl
 
-bodies_length : (names : Meanings) (n : ℕ) (items : List Item) → length (bodies_from names n items) ≡ task_count items
+pub bodies_length : (names : Meanings) (n : ℕ) (items : List Item) → length (bodies_from names n items) ≡ task_count items
 bodies_length names n [] = refl
 bodies_length names n (i ∷ items) =
     let more = bodies_from names (n + length (item_blocks names n i)) items in
@@ -76,7 +76,7 @@ item_versions_length names k (item.Event x t d vs) = refl
 item_versions_length names k (item.Degrade xs) = refl
 item_versions_length names k (item.Start x) = refl
 
-versions_length : (names : Meanings) (n : ℕ) (items : List Item) → length (versions_from names n items) ≡ event_count items
+pub versions_length : (names : Meanings) (n : ℕ) (items : List Item) → length (versions_from names n items) ≡ event_count items
 versions_length names n [] = refl
 versions_length names n (i ∷ items) =
     let more = versions_from names (n + length (item_blocks names n i)) items in

@@ -1,17 +1,16 @@
 -- A source that meets the conditions is small, and has few blocks.
-use Rattle.std.proofs.Common.{◌≡◌, ℕ, suc, zero, ◌+◌, ◌<◌, ◌≤◌, ◌^◌, Bool, true, false, List, [], ◌∷◌, ◌++◌, length, refl, ap, sym, ◌∙◌, subst, arith, length-append, take, inl, inr}
+use Rattle.std.proofs.Common.{◌≡◌, ℕ, suc, ◌+◌, ◌<◌, ◌≤◌, ◌^◌, Bool, false, List, [], ◌∷◌, ◌++◌, length, refl, subst, arith, length-append, take, inl, inr}
 use Rattle.std.specs.Prelude.{sum_by}
 use Rattle.std.proofs.lemmas.List.Sums.{sum_by-append, sum_by-cons}
 use Rattle.std.proofs.Math.Seq.{take-length}
-use Rattle.std.proofs.Math.Dec.{ltb}
-use Rattle.std.proofs.lemmas.Bool.{ltb-false, false_from_ne_true}
+use Rattle.std.proofs.lemmas.Bool.{ltb-false}
 use Rattle.cn_base.specs.declared.tree.Item.{Item}
 use Rattle.cn_base.specs.declared.tree.Item.TheVariants as item
 use Rattle.cn_base.specs.declared.tree.Stmt.{Stmt}
 use Rattle.cn_base.specs.declared.tree.Tree.{Tree}
-use Rattle.cat_conditions.specs.Plain.{Term, number, truth, payload, variable, element, signed, chain, compare, Furthers, no_further, further, Action, set, set_at, out, post, choose, loop, turns, Actions, no_action, action, Else, no_else, otherwise, block_of}
-use Rattle.cat_conditions.specs.Pieces.{Piece, an_item, a_statement, an_expression, inner_terms, further_terms, term_pieces, inner_pieces, block_pieces, else_pieces, versions_pieces, item_pieces, items_pieces, pieces}
-use Rattle.cat_conditions.specs.Offences.{At, Exceeds, NoneOf}
+use Rattle.cat_conditions.specs.Plain.{Term, Action, set, set_at, out, post, choose, loop, turns, Actions, no_action, action, Else, no_else, otherwise, block_of}
+use Rattle.cat_conditions.specs.Pieces.{Piece, an_item, a_statement, an_expression, item_pieces, items_pieces, pieces}
+use Rattle.cat_conditions.specs.Offences.{Exceeds, NoneOf}
 use Rattle.cat_conditions.specs.Local.{has_many_versions}
 use Rattle.cat_conditions.specs.Counts.{words, one_event, one_task, task_size, event_size, action_size, block_size, else_size, versions_size}
 use Rattle.cat_conditions.specs.Conditions.{MakesCodeLong, IsChecked}
@@ -20,87 +19,31 @@ use Rattle.cat_resolve.specs.Header.{word_count, task_count, event_count, HasFew
 use Rattle.cat_resolve.specs.Form.{Command}
 use Rattle.cat_resolve.specs.Blocks.{blocks_in, blocks_within, else_blocks, commands_of, block_blocks}
 use Rattle.cat_resolve.specs.Content.{versions_blocks, item_blocks, blocks_from}
+use Rattle.cat_resolve.proofs.ByItem.{IsInner, AllInner, item_inner, EachFails, each_fails}
 
 -- a weight that items alone have
-record OfItems (w : Piece → ℕ) : Type 0 where
+pub record OfItems (w : Piece → ℕ) : Type 0 where
   pub statement : (event : Bool) (room : ℕ) (a : Action) → w (a_statement event room a) ≡ 0
   pub expression : (event : Bool) (t : Term) → w (an_expression event t) ≡ 0
 
-before : (w : Piece → ℕ) (p : Piece) (ps : List Piece) → w p ≡ 0 → sum_by w ps ≡ 0 → sum_by w (p ∷ ps) ≡ 0
-before w p ps a b =
+of_inner : (w : Piece → ℕ) → OfItems w → (p : Piece) → IsInner p → w p ≡ 0
+of_inner w o (an_item i) h = absurd h
+of_inner w o (a_statement event room a) h = o.statement event room a
+of_inner w o (an_expression event t) h = o.expression event t
+
+inner_none : (w : Piece → ℕ) → OfItems w → (ps : List Piece) → AllInner ps → sum_by w ps ≡ 0
+inner_none w o [] h = refl
+inner_none w o (p ∷ ps) h =
+    let own : w p ≡ 0 = of_inner w o p h.0 in
+    let rest : sum_by w ps ≡ 0 = inner_none w o ps h.1 in
     let c : sum_by w (p ∷ ps) ≡ w p + sum_by w ps = sum_by-cons w p ps in
-    omega (arith, a, b, c)
-
-both : (w : Piece → ℕ) (ps qs : List Piece) → sum_by w ps ≡ 0 → sum_by w qs ≡ 0 → sum_by w (ps ++ qs) ≡ 0
-both w ps qs a b =
-    let c : sum_by w (ps ++ qs) ≡ sum_by w ps + sum_by w qs = sum_by-append w ps qs in
-    omega (arith, a, b, c)
-
-nothing : (w : Piece → ℕ) → sum_by w [] ≡ 0
-nothing w = refl
-
-mutual
-  inner_none : (w : Piece → ℕ) → OfItems w → (event : Bool) (t : Term) → sum_by w (inner_terms event t) ≡ 0
-  inner_none w o event (number n) = nothing w
-  inner_none w o event (truth b) = nothing w
-  inner_none w o event payload = nothing w
-  inner_none w o event (variable x) = nothing w
-  inner_none w o event (element x index) = before w (an_expression event index) (inner_terms event index) (o.expression event index) (inner_none w o event index)
-  inner_none w o event (signed s t) = before w (an_expression event t) (inner_terms event t) (o.expression event t) (inner_none w o event t)
-  inner_none w o event (chain t others) =
-      before w (an_expression event t) (inner_terms event t ++ further_terms event others) (o.expression event t)
-      (both w (inner_terms event t) (further_terms event others) (inner_none w o event t) (others_none w o event others))
-  inner_none w o event (compare t c u) =
-      before w (an_expression event t) (inner_terms event t ++ an_expression event u ∷ inner_terms event u) (o.expression event t)
-      (both w (inner_terms event t) (an_expression event u ∷ inner_terms event u) (inner_none w o event t)
-      (before w (an_expression event u) (inner_terms event u) (o.expression event u) (inner_none w o event u)))
-
-  others_none : (w : Piece → ℕ) → OfItems w → (event : Bool) (ts : Furthers) → sum_by w (further_terms event ts) ≡ 0
-  others_none w o event no_further = nothing w
-  others_none w o event (further op t others) =
-      before w (an_expression event t) (inner_terms event t ++ further_terms event others) (o.expression event t)
-      (both w (inner_terms event t) (further_terms event others) (inner_none w o event t) (others_none w o event others))
-
-term_none : (w : Piece → ℕ) → OfItems w → (event : Bool) (t : Term) → sum_by w (term_pieces event t) ≡ 0
-term_none w o event t = before w (an_expression event t) (inner_terms event t) (o.expression event t) (inner_none w o event t)
-
-mutual
-  action_none : (w : Piece → ℕ) → OfItems w → (event : Bool) (room : ℕ) (a : Action) → sum_by w (inner_pieces event room a) ≡ 0
-  action_none w o event room (set x t) = term_none w o event t
-  action_none w o event room (set_at x t u) = both w (term_pieces event t) (term_pieces event u) (term_none w o event t) (term_none w o event u)
-  action_none w o event room (out channel t) = term_none w o event t
-  action_none w o event room (post x) = nothing w
-  action_none w o event room (choose t first second) =
-      both w (term_pieces event t) (block_pieces event room first ++ else_pieces event room second) (term_none w o event t)
-      (both w (block_pieces event room first) (else_pieces event room second) (block_none w o event room first) (else_none w o event room second))
-  action_none w o event room (loop t body) = both w (term_pieces event t) (block_pieces event room body) (term_none w o event t) (block_none w o event room body)
-  action_none w o event room (turns count body) = block_none w o event _ body
-
-  block_none : (w : Piece → ℕ) → OfItems w → (event : Bool) (room : ℕ) (b : Actions) → sum_by w (block_pieces event room b) ≡ 0
-  block_none w o event room no_action = nothing w
-  block_none w o event room (action a rest) =
-      before w (a_statement event room a) (inner_pieces event room a ++ block_pieces event room rest) (o.statement event room a)
-      (both w (inner_pieces event room a) (block_pieces event room rest) (action_none w o event room a) (block_none w o event room rest))
-
-  else_none : (w : Piece → ℕ) → OfItems w → (event : Bool) (room : ℕ) (e : Else) → sum_by w (else_pieces event room e) ≡ 0
-  else_none w o event room no_else = nothing w
-  else_none w o event room (otherwise b) = block_none w o event room b
-
-versions_none : (w : Piece → ℕ) → OfItems w → (vs : List (List Stmt)) → sum_by w (versions_pieces vs) ≡ 0
-versions_none w o [] = nothing w
-versions_none w o (v ∷ vs) = both w (block_pieces true 32 (block_of v)) (versions_pieces vs) (block_none w o true 32 (block_of v)) (versions_none w o vs)
+    omega (arith, own, rest, c)
 
 item_none : (w : Piece → ℕ) → OfItems w → (i : Item) → sum_by w (item_pieces i) ≡ 0
-item_none w o (item.Task x body) = block_none w o false 32 (block_of body)
-item_none w o (item.Event x t d vs) = versions_none w o vs
-item_none w o (item.Int x m n) = nothing w
-item_none w o (item.Bool x b) = nothing w
-item_none w o (item.Array x n) = nothing w
-item_none w o (item.Degrade xs) = nothing w
-item_none w o (item.Start x) = nothing w
+item_none w o i = inner_none w o (item_pieces i) (item_inner i)
 
 -- so one item more weighs what it weighs itself
-one_item : (w : Piece → ℕ) → OfItems w → (i : Item) (items : List Item) → sum_by w (items_pieces (i ∷ items)) ≡ w (an_item i) + sum_by w (items_pieces items)
+pub one_item : (w : Piece → ℕ) → OfItems w → (i : Item) (items : List Item) → sum_by w (items_pieces (i ∷ items)) ≡ w (an_item i) + sum_by w (items_pieces items)
 one_item w o i items =
     let a : sum_by w (items_pieces (i ∷ items)) ≡ w (an_item i) + sum_by w (item_pieces i ++ items_pieces items) = sum_by-cons w (an_item i) (item_pieces i ++ items_pieces items) in
     let b : sum_by w (item_pieces i ++ items_pieces items) ≡ sum_by w (item_pieces i) + sum_by w (items_pieces items) = sum_by-append w (item_pieces i) (items_pieces items) in
@@ -116,10 +59,10 @@ of_tasks = record { statement = λ event room a. refl; expression = λ event t. 
 of_events : OfItems one_event
 of_events = record { statement = λ event room a. refl; expression = λ event t. refl }
 
-of_task_size : OfItems task_size
+pub of_task_size : OfItems task_size
 of_task_size = record { statement = λ event room a. refl; expression = λ event t. refl }
 
-of_event_size : OfItems event_size
+pub of_event_size : OfItems event_size
 of_event_size = record { statement = λ event room a. refl; expression = λ event t. refl }
 
 same_words : (i : Item) → words_of i ≡ words (an_item i)
@@ -271,7 +214,7 @@ within w limit (p ∷ ps) h =
     let no = subst (λ l. ¬ (limit < sum_by w l)) (all_taken p ps) (h (length ps) (last p ps)) in
     omega (arith, no)
 
-short : (ps : List Piece) → NoneOf (length ps) (MakesCodeLong ps) → sum_by task_size ps + sum_by event_size ps ≤ 60000
+pub short : (ps : List Piece) → NoneOf (length ps) (MakesCodeLong ps) → sum_by task_size ps + sum_by event_size ps ≤ 60000
 short [] h = omega arith
 short (p ∷ ps) h =
     let all = p ∷ ps in
@@ -288,15 +231,8 @@ few_blocks tree checked =
 
 -- ---- versions
 
-after : (test : Piece → Bool) (p : Piece) (ps : List Piece) → NoneOf (length (p ∷ ps)) (At test (p ∷ ps)) → NoneOf (length ps) (At test ps)
-after test p ps h k in_list = h (suc k) (omega (arith, in_list))
-
-after_all : (test : Piece → Bool) (ps qs : List Piece) → NoneOf (length (ps ++ qs)) (At test (ps ++ qs)) → NoneOf (length qs) (At test qs)
-after_all test [] qs h = h
-after_all test (p ∷ ps) qs h = after_all test ps qs (after test p (ps ++ qs) h)
-
-few_in : (i : Item) → ¬ (has_many_versions (an_item i) ≡ true) → HasFewVersions i
-few_in (item.Event x t d vs) h = ltb-false 4 (length vs) (false_from_ne_true (ltb 4 (length vs)) h)
+few_in : (i : Item) → has_many_versions (an_item i) ≡ false → HasFewVersions i
+few_in (item.Event x t d vs) h = ltb-false 4 (length vs) h
 few_in (item.Int x m n) h = tt
 few_in (item.Bool x b) h = tt
 few_in (item.Array x n) h = tt
@@ -304,12 +240,9 @@ few_in (item.Task x body) h = tt
 few_in (item.Degrade xs) h = tt
 few_in (item.Start x) h = tt
 
-few_in_all : (items : List Item) → NoneOf (length (items_pieces items)) (At has_many_versions (items_pieces items)) → AllHaveFewVersions items
+few_in_all : (items : List Item) → EachFails has_many_versions items → AllHaveFewVersions items
 few_in_all [] h = tt
-few_in_all (i ∷ items) h =
-    let rest = item_pieces i ++ items_pieces items in
-    let later = after has_many_versions (an_item i) rest h in
-    (few_in i (h 0 (omega arith)), few_in_all items (after_all has_many_versions (item_pieces i) (items_pieces items) later))
+few_in_all (i ∷ items) h = (few_in i h.0, few_in_all items h.1)
 
 pub is_small : (tree : Tree) → IsChecked tree → IsSmall tree.items
 is_small tree checked =
@@ -324,5 +257,5 @@ is_small tree checked =
       few_words = omega (arith, a, b);
       few_tasks = omega (arith, e, f);
       few_events = omega (arith, c, d);
-      few_versions = few_in_all tree.items checked.1.1.1.1.0;
+      few_versions = few_in_all tree.items (each_fails has_many_versions tree.items checked.1.1.1.1.0);
     }

@@ -6,10 +6,12 @@ mod blocks;
 mod bodies;
 mod declarations;
 mod expression;
+mod laws;
 mod names;
 mod program;
 
-pub use program::{Parts, resolve};
+pub use laws::checked_law;
+pub use program::resolve;
 
 #[cfg(test)]
 mod tests;

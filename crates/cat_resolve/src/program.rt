@@ -9,40 +9,16 @@ ghost use Rattle.cat_resolve.specs.Program.{IsProgramOf};
 
 use crate::bodies::build_all;
 use crate::declarations::declare_all;
-use cat_program::{Event, Stmt, Variable};
+use cat_program::Parts;
+use cn_base::List;
 use cn_base::tree::Tree;
-use cn_base::{List, Text};
 use std::alloc::{AllocError, Global};
-
-/// All that a program has. Variables, words, tasks and events are numbered from 0 in the order in which the source declares them.
-#[derive(Drop)]
-pub struct Parts {
-    /// The variables: an `int` or a `bool` has one word, an array as many as its length.
-    pub variables: List<Variable>,
-    /// The first value of each word: a number in 32 bits, 1 for `true`, 0 for `false` and for each word of an array.
-    pub words: List<i32>,
-    /// The names of the tasks.
-    pub names: List<Text>,
-    /// How many posts each task has at first: one for each `start` of it, at most 65,535.
-    pub started: List<u16>,
-    /// The block of each task.
-    pub tasks: List<u32>,
-    /// The events as they are declared.
-    pub headers: List<Event>,
-    /// The blocks of each event's versions, in the order in which they stand in the source.
-    pub events: List<List<u32>>,
-    /// The degrade order: the events that all `degrade` items mention, one after the other.
-    pub mentions: List<u8>,
-    /// The statements of each block. Blocks are numbered from 0 in the order in which they end, so a statement names lower blocks
-    /// than its own.
-    pub blocks: List<List<Stmt>>,
-}
 
 /// The program of a source: names become numbers, and each block gets one. A name stands for what the first item that declares it
 /// declares.
 ///
 /// The source must be small, as the conditions say: at most 1,024 words, 16 tasks, 16 events with 4 versions each, and fewer than
-/// 2^32 blocks; `proofs/Small.antt` has that each source that meets the conditions is so. What else they rule out is resolved all
+/// 2^32 blocks; `checked_law` has that each source that meets the conditions is so. What else they rule out is resolved all
 /// the same: a name that stands for nothing, or not for what is needed there, as word, task or event 0 (an array as one without
 /// words), a channel above 255 as 255, and a count of a repeat above 65,535 as 65,535. A `start` of such a name counts for no task.
 ///

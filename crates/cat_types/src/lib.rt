@@ -1,4 +1,4 @@
-//! Whether a source meets the conditions.
+//! Whether a source meets the conditions, and its program.
 #![tactic(auto)]
 
 mod checks;
@@ -7,6 +7,7 @@ mod counts;
 mod degrade;
 mod names;
 mod pieces;
+mod program;
 mod rules;
 mod sizes;
 #[cfg(test)]
@@ -15,3 +16,4 @@ mod types;
 mod uses;
 
 pub use checks::verdict;
+pub use program::check;

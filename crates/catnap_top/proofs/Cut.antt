@@ -3,9 +3,14 @@ use Rattle.std.proofs.Common.{◌≡◌, ℕ, ◌+◌, ◌<◌, ◌≤◌, List,
 use Rattle.std.proofs.lemmas.List.{take_all, length-take}
 use Rattle.std.proofs.lemmas.Bool.{cases_lt}
 use Rattle.catnap_top.specs.declared.words.Form.{Form}
-use Rattle.catnap_top.specs.declared.words.Form.TheVariants.{Run}
+use Rattle.catnap_top.specs.declared.words.Form.TheVariants.{Run, List as Listing}
 use Rattle.catnap_top.specs.Answer.{Answer, most_bytes}
-use Rattle.catnap_top.specs.Run.{RunCallsFor, too_long, no_tokens, no_tree, unchecked, not_small, runs}
+use Rattle.cat_program.specs.Checked.{Checked}
+use Rattle.catnap_top.specs.declared.refusal.SourceFault.{SourceFault}
+use Rattle.catnap_top.specs.Source.{most_source, IsSourceOf, IsRefused, too_long, no_tokens, no_tree, unchecked}
+use Rattle.catnap_top.specs.Run.{RunCallsFor, refuses, runs}
+use Rattle.catnap_top.specs.Listed.{ListCallsFor, lists}
+use Rattle.catnap_top.specs.Listed as list
 use Rattle.catnap_top.specs.Reply.{CallsFor}
 
 abbrev pub front : List ℕ → List ℕ
@@ -18,14 +23,20 @@ pub front_short : (file : List ℕ) → length file ≤ most_bytes → front fil
 front_short file le = take_all (most_bytes + 1) file (omega arith)
 
 -- a source that long is refused either way
+refused_long : (file : List ℕ) (kind : SourceFault) → most_bytes < length file → most_bytes < length (front file)
+    → IsRefused (front file) kind → IsRefused file kind
+refused_long file kind lt more (too_long long e) = too_long (omega arith) e
+refused_long file kind lt more (no_tokens tokens fault le lexes e) = absurd (omega arith)
+refused_long file kind lt more (no_tree tokens fault le lexes is e) = absurd (omega arith)
+refused_long file kind lt more (unchecked tokens tree fault le lexes spelled is e) = absurd (omega arith)
+
+not_long : (file : List ℕ) (p : Checked) → most_bytes < length (front file) → IsSourceOf (front file) p → ⊥
+not_long file p more is = let le : length (front file) ≤ most_source = is.within in absurd (omega (arith, more, le))
+
 run_long : (steps : ℕ) (file : List ℕ) (due : Answer) → most_bytes < length file → most_bytes < length (front file)
     → RunCallsFor steps (front file) due → RunCallsFor steps file due
-run_long steps file due lt more (too_long long e) = too_long (omega arith) e
-run_long steps file due lt more (no_tokens tokens fault kind le lexes of e) = absurd (omega arith)
-run_long steps file due lt more (no_tree tokens fault kind le lexes has of e) = absurd (omega arith)
-run_long steps file due lt more (unchecked tokens tree fault kind le lexes spelled has of e) = absurd (omega arith)
-run_long steps file due lt more (not_small tokens tree le lexes spelled checked none e) = absurd (omega arith)
-run_long steps file due lt more (runs words posts body le stands e) = absurd (omega arith)
+run_long steps file due lt more (refuses kind is e) = refuses kind (refused_long file kind lt more is) e
+run_long steps file due lt more (runs p is e) = absurd (not_long file p more is)
 
 pub run_cut : (steps : ℕ) (file : List ℕ) (due : Answer) → RunCallsFor steps (front file) due → RunCallsFor steps file due
 run_cut steps file due h =
@@ -34,7 +45,21 @@ run_cut steps file due h =
       | inr le ↦ subst (λ f. RunCallsFor steps f due) (front_short file le) h
     ]
 
+list_long : (file : List ℕ) (due : Answer) → most_bytes < length file → most_bytes < length (front file)
+    → ListCallsFor (front file) due → ListCallsFor file due
+list_long file due lt more (list.refuses kind is e) = list.refuses kind (refused_long file kind lt more is) e
+list_long file due lt more (lists p is e) = absurd (not_long file p more is)
+
+pub list_cut : (file : List ℕ) (due : Answer) → ListCallsFor (front file) due → ListCallsFor file due
+list_cut file due h =
+    elim (cases_lt most_bytes (length file)) [
+      | inl lt ↦ list_long file due lt (front_long file lt) h
+      | inr le ↦ subst (λ f. ListCallsFor f due) (front_short file le) h
+    ]
+
 pub form_cut : (form : Form) (bytes : List (List ℕ)) (due : Answer)
     → CallsFor form (map (λ file. take (most_bytes + 1) file) bytes) due → CallsFor form bytes due
 form_cut (Run steps) [] due h = h
 form_cut (Run steps) (x ∷ xs) due h = run_cut steps x due h
+form_cut Listing [] due h = h
+form_cut Listing (x ∷ xs) due h = list_cut x due h

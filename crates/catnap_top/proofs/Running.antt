@@ -1,17 +1,18 @@
 -- A run, step by step.
-use Rattle.std.proofs.Common.{◌≡◌, ℕ, zero, suc, ◌+◌, ◌-◌, ◌<◌, ◌≤◌, List, [], ◌∷◌, ◌++◌, length, take, drop, Option, Some, None, Result, Ok, Err, refl, sym, ap, ◌∙◌, arith, append_assoc}
+use Rattle.std.proofs.Common.{◌≡◌, ℕ, zero, suc, ◌+◌, ◌-◌, ◌<◌, ◌≤◌, List, [], ◌∷◌, ◌++◌, length, take, drop, Option, Some, None, Result, Ok, Err, refl, sym, ap, ◌∙◌, arith, append_assoc, pos, MatchOption}
 use Rattle.std.proofs.lemmas.List.{append-nil, take-append-drop}
 use Rattle.std.specs.Io.KnownBytes.{append_known}
 use Rattle.cn_base.specs.Writing.{Writes, IsCut}
 use Rattle.cn_base.specs.Sums.{cut_amid, known_on}
 use Rattle.cat_program.specs.declared.syntax.Stepped.{Stepped}
-use Rattle.cat_program.specs.declared.syntax.Stmt.{Stmt}
-use Rattle.cat_program.specs.Body.{Body}
-use Rattle.cat_program.specs.Meaning.{TaskState, TaskStep, task_step_of}
-use Rattle.catnap_top.specs.Machine.{MachineValue, state_of, step_to, current_of}
-use Rattle.catnap_top.specs.Prepared.{machine_answer}
-use Rattle.catnap_top.specs.Run.{answers, follow, out_line, out_lines, steps_line, run_text, one_body, ran}
-use Rattle.catnap_top.specs.declared.status.Status.TheVariants.{Done}
+use Rattle.cat_program.specs.declared.syntax.Stepped.TheVariants.{Quiet, None as NoStep}
+use Rattle.cat_program.specs.Body.{Body, Empty, Plain, When, Choice, Loop, Turns}
+use Rattle.cat_program.specs.Meaning.{Store, Output, output, answer_of, TaskState, TaskStep, first_posted, lowered, quietly, taken as begun, list_step, step_from, task_step_of}
+use Rattle.cat_program.specs.Checked.{Checked, body_at}
+use Rattle.cat_eval.specs.StateValue.{StateValue}
+use Rattle.cat_eval.specs.Cursor.{state_of}
+use Rattle.cat_eval.specs.Steps.{StepIs, StepsAs}
+use Rattle.catnap_top.specs.Run.{answers, follow, out_line, out_lines, steps_line, run_text}
 
 -- ---- the answers that are left
 
@@ -25,30 +26,60 @@ answers_next : (bodies : ℕ → Body) (count : ℕ) (state : TaskState) (step :
 unfolding answers
 answers_next bodies count state step e = ap (λ s. follow s (answers bodies count)) e
 
-pub answers_go : (bodies : ℕ → Body) (steps taken : ℕ) (state : TaskState) (answer : Stepped) (m : MachineValue) → taken < steps
-    → task_step_of bodies state ≡ Some (step_to answer m)
-    → answers bodies (steps - taken) state ≡ answer ∷ answers bodies (steps - (taken + 1)) (state_of m)
-answers_go bodies steps taken state answer m lt e =
-    let one : steps - taken ≡ suc (steps - (taken + 1)) = omega arith in
-    ap (λ n. answers bodies n state) one ∙ answers_next bodies (steps - (taken + 1)) state (step_to answer m) e
-
 pub answers_done : (bodies : ℕ → Body) (steps taken : ℕ) (state : TaskState) → steps ≤ taken → answers bodies (steps - taken) state ≡ []
 unfolding answers
 answers_done bodies steps taken state le = let none : steps - taken ≡ 0 = omega arith in ap (λ n. answers bodies n state) none
 
--- the answers that are left behind a step of a machine
-pub left_go : (xs : List Stepped) (body : List Stmt) (steps taken : ℕ) (m new : MachineValue) (answer : Stepped) → m.body ≡ body
-    → drop taken xs ≡ answers (one_body body) (steps - taken) (state_of m) → taken < steps
-    → task_step_of (one_body m.body) (state_of m) ≡ Some (step_to answer new)
-    → drop taken xs ≡ answer ∷ answers (one_body body) (steps - (taken + 1)) (state_of new)
-left_go xs body steps taken m new answer same left lt step =
-    left ∙ answers_go (one_body body) steps taken (state_of m) answer new lt (ap (λ b. task_step_of (one_body b) (state_of m)) (sym same) ∙ step)
+-- each step answers something
+answer_is_some : (os : List Output) → answer_of os ≡ NoStep → ⊥
+answer_is_some [] e = absurd cc
+answer_is_some (o ∷ os) e = absurd cc
 
-pub left_stop : (xs : List Stepped) (body : List Stmt) (steps taken : ℕ) (m : MachineValue) → m.body ≡ body
-    → drop taken xs ≡ answers (one_body body) (steps - taken) (state_of m)
-    → task_step_of (one_body m.body) (state_of m) ≡ None → drop taken xs ≡ []
-left_stop xs body steps taken m same left none =
-    left ∙ answers_stop (one_body body) (steps - taken) (state_of m) (ap (λ b. task_step_of (one_body b) (state_of m)) (sym same) ∙ none)
+list_answers : (k : Body) (s : Store) → (list_step k s).answer ≡ NoStep → ⊥
+list_answers Empty s e = absurd cc
+list_answers (Plain b p simple rest) s e = answer_is_some (output simple (pos 0) s) e
+list_answers (When b p test on rest) s e = absurd cc
+list_answers (Choice b p test on off rest) s e = absurd cc
+list_answers (Loop b p test body rest) s e = absurd cc
+list_answers (Turns b p n body rest) s e = absurd cc
+
+taken_answers : (bodies : ℕ → Body) (s : Store) (t : Option ℕ) (step : TaskStep) → begun bodies s t ≡ Some step → step.answer ≡ NoStep → ⊥
+taken_answers bodies s None step is e = absurd cc
+taken_answers bodies s (Some t) step is e =
+    let same : quietly (record { words = s.words; posts = lowered s.posts t }) (Some (bodies t)) ≡ step = cc in
+    let both : Quiet ≡ NoStep = ap (λ x. x.answer) same ∙ e in
+    absurd cc
+
+step_answers : (bodies : ℕ → Body) (s : Store) (k : Option Body) (step : TaskStep) → step_from bodies s k ≡ Some step → step.answer ≡ NoStep → ⊥
+step_answers bodies s None step is e = taken_answers bodies s (first_posted s.posts) step is e
+step_answers bodies s (Some k) step is e =
+    let same : list_step k s ≡ step = cc in
+    list_answers k s (ap (λ x. x.answer) same ∙ e)
+
+-- what a call of the interpreter says of the answers that are left
+pub left_stop : (xs : List Stepped) (p : Checked) (steps taken : ℕ) (old new : StateValue) (answer : Stepped)
+    → drop taken xs ≡ answers (body_at p) (steps - taken) (state_of p old) → StepsAs p old answer new → answer ≡ NoStep → drop taken xs ≡ []
+left_stop xs p steps taken old new answer left is none = left ∙ stopped (task_step_of (body_at p) (state_of p old)) refl is where
+  stopped : (s : Option TaskStep) → task_step_of (body_at p) (state_of p old) ≡ s
+      → MatchOption s ((answer ≡ NoStep) × (new ≡ old)) (λ step. StepIs p step answer new)
+      → answers (body_at p) (steps - taken) (state_of p old) ≡ []
+  stopped None e at = answers_stop (body_at p) (steps - taken) (state_of p old) e
+  stopped (Some step) e at = absurd (step_answers (body_at p) (state_of p old).store (state_of p old).current step e (sym at.answers ∙ none))
+
+pub left_go : (xs : List Stepped) (p : Checked) (steps taken : ℕ) (old new : StateValue) (answer : Stepped)
+    → drop taken xs ≡ answers (body_at p) (steps - taken) (state_of p old) → taken < steps → StepsAs p old answer new → ¬ (answer ≡ NoStep)
+    → drop taken xs ≡ answer ∷ answers (body_at p) (steps - (taken + 1)) (state_of p new)
+left_go xs p steps taken old new answer left lt is some = left ∙ gone (task_step_of (body_at p) (state_of p old)) refl is where
+  gone : (s : Option TaskStep) → task_step_of (body_at p) (state_of p old) ≡ s
+      → MatchOption s ((answer ≡ NoStep) × (new ≡ old)) (λ step. StepIs p step answer new)
+      → answers (body_at p) (steps - taken) (state_of p old) ≡ answer ∷ answers (body_at p) (steps - (taken + 1)) (state_of p new)
+  gone None e at = absurd (some at.0)
+  gone (Some step) e at =
+      let one : steps - taken ≡ suc (steps - (taken + 1)) = omega arith in
+      ap (λ n. answers (body_at p) n (state_of p old)) one
+      ∙ answers_next (body_at p) (steps - (taken + 1)) (state_of p old) step e
+      ∙ ap (λ a. a ∷ answers (body_at p) (steps - (taken + 1)) step.after) (sym at.answers)
+      ∙ ap (λ s. answer ∷ answers (body_at p) (steps - (taken + 1)) s) (sym at.after)
 
 -- ---- a list from a place on
 
@@ -130,11 +161,3 @@ run_ends w0 w1 w2 xs i r so_far le e h =
     let all = taken_all xs i le e in
     ends_with w0 w1 w2 (out_lines (take i xs)) (steps_line i) (run_text xs) r so_far
     (ap (λ ys. out_lines ys ++ steps_line i) all.0 ∙ ap (λ n. out_lines xs ++ steps_line n) (sym all.1)) h
-
--- a machine in which no task is current runs from the idle state
-pub machine_idle : (steps : ℕ) (m : MachineValue) → m.place ≡ None → machine_answer steps m ≡ ran steps (one_body m.body) m.words m.posts
-machine_idle steps m e =
-    ap (λ p. record {
-      status = Done;
-      text = run_text (answers (one_body m.body) steps (record { store = record { words = m.words; posts = m.posts }; current = current_of m.body p }));
-    }) e

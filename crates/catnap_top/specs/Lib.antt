@@ -1,13 +1,12 @@
 pub mod Answer
 pub mod Statuses
 pub mod Words
-pub mod Small
 pub mod Refusals
-pub mod After
-pub mod Exact
-pub mod Machine
+pub mod Source
 pub mod Run
-pub mod Prepared
+pub mod ReadyValue
+pub mod Listed
+pub mod CompiledValue
 pub mod Reply
 pub mod Reads
 pub mod Course

@@ -34,7 +34,6 @@ kind_name kind.DegradeTooOften = codes "DegradeTooOften"
 kind_name kind.StackTooDeep = codes "StackTooDeep"
 kind_name kind.HandlerTooLong = codes "HandlerTooLong"
 kind_name kind.CodeTooLong = codes "CodeTooLong"
-kind_name kind.Early = codes "Early"
 
 abbrev pub refused : SourceFault → Answer
 refused fault = record { status = BadSource; text = line (codes "fault source " ∷ kind_name fault ∷ codes "\n" ∷ []) }

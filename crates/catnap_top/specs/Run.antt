@@ -1,28 +1,16 @@
 -- `run SRC STEPS`: what the first steps of the tasks put out, or all that exist.
-use Rattle.std.specs.Prelude.{◌≡◌, ℕ, zero, suc, ◌<◌, ◌≤◌, ℤ, List, [], ◌∷◌, ◌++◌, length, Option, Some, None, codes, decimal}
+use Rattle.std.specs.Prelude.{◌≡◌, ℕ, zero, suc, ℤ, List, [], ◌∷◌, ◌++◌, length, Option, Some, None, codes, decimal}
 use Rattle.std.specs.Fmt.{signed_decimal}
-use Rattle.cat_program.specs.declared.syntax.Stmt.{Stmt}
 use Rattle.cat_program.specs.declared.syntax.Stepped.{Stepped}
 use Rattle.cat_program.specs.declared.syntax.Stepped.TheVariants.{Out}
 use Rattle.cat_program.specs.Body.{Body}
 use Rattle.cat_program.specs.Meaning.{TaskState, TaskStep, task_step_of}
-use Rattle.cat_tokens.specs.declared.token.Token.{Token}
-use Rattle.cat_tokens.specs.declared.lexer.LexFault.{LexFault}
-use Rattle.cat_tokens.specs.Lexemes.{lexemes}
-use Rattle.cat_tokens.specs.Lexes.{Lexes}
-use Rattle.cn_base.specs.declared.tree.Tree.{Tree}
-use Rattle.cat_syntax.specs.declared.fault.SyntaxFault.{SyntaxFault}
-use Rattle.cat_syntax.specs.Spells.{Spells, IsFault}
-use Rattle.cat_conditions.specs.declared.fault.TypeFault.{TypeFault}
-use Rattle.cat_conditions.specs.Pieces.{pieces}
-use Rattle.cat_conditions.specs.Conditions.{IsChecked, IsFault as IsTypeFault}
+use Rattle.cat_program.specs.Checked.{Checked, body_at, first_state}
 use Rattle.catnap_top.specs.declared.refusal.SourceFault.{SourceFault}
-use Rattle.catnap_top.specs.declared.refusal.SourceFault.TheVariants.{TooLong, Early}
-use Rattle.catnap_top.specs.Refusals.{refused, kind_of_token_fault, kind_of_syntax_fault, kind_of_type_fault}
 use Rattle.catnap_top.specs.declared.status.Status.TheVariants.{Done}
 use Rattle.catnap_top.specs.Answer.{Answer, line}
-use Rattle.catnap_top.specs.Small.{StandsFor}
-use Rattle.catnap_top.specs.Machine.{body_from}
+use Rattle.catnap_top.specs.Refusals.{refused}
+use Rattle.catnap_top.specs.Source.{IsSourceOf, IsRefused}
 
 -- a step's answer, and what comes after the step
 abbrev pub follow : Option TaskStep → (TaskState → List Stepped) → List Stepped
@@ -33,10 +21,6 @@ follow (Some step) rest = step.answer ∷ rest step.after
 unfoldable pub answers : (ℕ → Body) → ℕ → TaskState → List Stepped
 answers bodies zero state = []
 answers bodies (suc count) state = follow (task_step_of bodies state) (answers bodies count)
-
--- the state in which no task is current
-abbrev pub idle : List ℤ → List ℕ → TaskState
-idle words posts = record { store = record { words = words; posts = posts }; current = None }
 
 -- the line of an output
 abbrev pub out_text : ℕ → ℤ → List ℕ
@@ -57,34 +41,11 @@ steps_line count = line (codes "steps " ∷ decimal count ∷ codes "\n" ∷ [])
 abbrev pub run_text : List Stepped → List ℕ
 run_text taken = out_lines taken ++ steps_line (length taken)
 
--- the run of some steps, where the words, the posts and the body of each task are given
-abbrev pub ran : ℕ → (ℕ → Body) → List ℤ → List ℕ → Answer
-ran steps bodies words posts = record { status = Done; text = run_text (answers bodies steps (idle words posts)) }
+-- the run of so many steps of a program
+abbrev pub ran : ℕ → Checked → Answer
+ran steps p = record { status = Done; text = run_text (answers (body_at p) steps (first_state p)) }
 
--- the body of the one task
-abbrev pub one_body : List Stmt → ℕ → Body
-one_body body task = body_from body 0
-
--- the greatest source, in bytes
-abbrev pub most_source : ℕ
-most_source = 262144
-
--- What `run` with so many steps calls for over a source's bytes: the first refusal in this order that applies, or the run.
+-- What `run` with so many steps calls for over a source's bytes: the source's refusal, or the run of its program.
 pub data RunCallsFor (steps : ℕ) (source : List ℕ) (due : Answer) : Type 0 where
-  too_long : most_source < length source → due ≡ refused TooLong → RunCallsFor steps source due
-  -- the text has tokens up to a first place without one
-  no_tokens : (tokens : List Token) (fault : LexFault) (kind : SourceFault) → length source ≤ most_source → Lexes 0 source tokens (Some fault)
-      → kind_of_token_fault fault ≡ Some kind → due ≡ refused kind → RunCallsFor steps source due
-  -- brackets are too deep, or the grammar derives the tokens for no tree
-  no_tree : (tokens : List Token) (fault : SyntaxFault) (kind : SourceFault) → length source ≤ most_source → Lexes 0 source tokens None
-      → IsFault (lexemes source tokens) fault → kind_of_syntax_fault fault ≡ Some kind → due ≡ refused kind → RunCallsFor steps source due
-  -- the tree breaks a condition
-  unchecked : (tokens : List Token) (tree : Tree) (fault : TypeFault) (kind : SourceFault) → length source ≤ most_source → Lexes 0 source tokens None
-      → Spells (lexemes source tokens) tree.items → IsTypeFault (pieces tree) fault → kind_of_type_fault fault ≡ Some kind → due ≡ refused kind
-      → RunCallsFor steps source due
-  not_small : (tokens : List Token) (tree : Tree) → length source ≤ most_source → Lexes 0 source tokens None
-      → Spells (lexemes source tokens) tree.items → IsChecked tree
-      → ((words : List ℤ) (posts : List ℕ) (body : List Stmt) → StandsFor source words posts body → ⊥)
-      → due ≡ refused Early → RunCallsFor steps source due
-  runs : (words : List ℤ) (posts : List ℕ) (body : List Stmt) → length source ≤ most_source → StandsFor source words posts body
-      → due ≡ ran steps (one_body body) words posts → RunCallsFor steps source due
+  refuses : (kind : SourceFault) → IsRefused source kind → due ≡ refused kind → RunCallsFor steps source due
+  runs : (p : Checked) → IsSourceOf source p → due ≡ ran steps p → RunCallsFor steps source due

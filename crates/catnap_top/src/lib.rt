@@ -1,21 +1,20 @@
 //! The top call: words, inputs and a sink in, a status out.
 #![tactic(auto)]
 
-mod cursor;
+mod compiled;
 mod line;
-mod machine;
+mod list;
 mod reading;
+mod ready;
 mod refusal;
 mod reply;
 mod run;
-mod small;
+mod source;
 mod status;
 mod stop;
-mod sum;
 #[cfg(test)]
 mod tests;
 mod top;
-mod value;
 mod words;
 
 pub use status::Status;

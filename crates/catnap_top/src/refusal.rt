@@ -37,8 +37,6 @@ pub enum SourceFault {
     StackTooDeep,
     HandlerTooLong,
     CodeTooLong,
-    /// It meets all conditions, but is not one that `run` takes yet.
-    Early,
 }
 
 impl SourceFault {
@@ -69,7 +67,6 @@ impl SourceFault {
             SourceFault::StackTooDeep => b"StackTooDeep".as_slice(),
             SourceFault::HandlerTooLong => b"HandlerTooLong".as_slice(),
             SourceFault::CodeTooLong => b"CodeTooLong".as_slice(),
-            SourceFault::Early => b"Early".as_slice(),
         }
     }
 

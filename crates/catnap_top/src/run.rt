@@ -1,32 +1,33 @@
 //! `run SRC STEPS`: what the first steps of the source's tasks put out.
 
-ghost use Rattle.std.specs.Prelude.{◌≡◌, ◌≤◌, IfOk, length};
+ghost use Rattle.std.specs.Prelude.{◌≡◌, true, false, MatchResult};
+ghost use Rattle.cat_program.specs.declared.syntax.Stepped.TheVariants.{None};
 ghost use Rattle.cn_base.specs.Causes.{HasCause};
 ghost use Rattle.cn_base.specs.Writing.{Writes};
-ghost use Rattle.catnap_top.specs.Run.{RunCallsFor, out_line};
-ghost use Rattle.catnap_top.specs.Prepared.{prepared_answer, machine_answer, refused_run};
+ghost use Rattle.cat_program.specs.Checked.{body_at};
+ghost use Rattle.cat_eval.specs.Cursor.{Fits, state_of};
+ghost use Rattle.catnap_top.specs.Run.{RunCallsFor, answers, out_line, run_text};
+ghost use Rattle.catnap_top.specs.ReadyValue.{ready_answer};
+ghost use Rattle.catnap_top.specs.Source.{StopsFor};
 
-use crate::Status;
 use crate::line::{put_out, put_steps};
-use crate::machine::Machine;
-use crate::refusal::{SourceFault, kind_of_syntax_fault, kind_of_token_fault, kind_of_type_fault};
-use crate::small::small;
+use crate::ready::Ready;
+use crate::source::program_of;
 use crate::stop::Stop;
-use cat_program::Stepped;
-use cat_syntax::parse;
-use cat_tokens::{one_lexing, tokens};
-use cat_types::verdict;
-use cn_base::{NoMemory, Sink, WriteFail};
+use cat_eval::{State, task_step};
+use cat_program::{Program, Stepped};
+use cn_base::{Sink, WriteFail};
 use std::alloc::Global;
 
-/// The greatest source, in bytes.
-const MOST_SOURCE: usize = 262_144;
-
-/// A run for which all memory has been taken.
-#[derive(Drop)]
-pub enum Prepared {
-    Refused(SourceFault),
-    Ready { steps: u32, machine: Machine },
+/// Whether a step existed.
+fn is_step(stepped: Stepped) -> bool
+    ensures step { result ≡ true → stepped ≡ None → ⊥ }
+    ensures none { result ≡ false → stepped ≡ None }
+{
+    match stepped {
+        Stepped::None => false,
+        _ => true,
+    }
 }
 
 fn put_step<K: Sink>(sink: &mut K, stepped: Stepped) -> Result<(), WriteFail>
@@ -40,15 +41,22 @@ fn put_step<K: Sink>(sink: &mut K, stepped: Stepped) -> Result<(), WriteFail>
 }
 
 /// Steps, and writes what is put out as it comes.
-fn write_run<K: Sink>(sink: &mut K, steps: u32, mut machine: Machine) -> Result<(), WriteFail>
-    ensures text { Writes (K.written sink.old) (K.written sink.new) (machine_answer steps machine).text result }
+fn write_steps<K: Sink>(
+    sink: &mut K,
+    steps: u32,
+    program: &Program,
+    mut state: State,
+) -> Result<(), WriteFail>
+    requires { Fits program.now state }
+    ensures text { Writes (K.written sink.old) (K.written sink.new) (run_text (answers (body_at program.now) steps (state_of program.now state))) result }
     ensures cause { HasCause (K.faults sink.old) (K.faults sink.new) result }
 {
     let mut taken = 0;
     while taken < steps {
-        let Some(stepped) = machine.step() else {
+        let stepped = task_step(program, &mut state);
+        if !is_step(stepped) {
             return put_steps(sink, taken);
-        };
+        }
         match put_step(sink, stepped) {
             Ok(()) => {}
             Err(fail) => return Err(fail),
@@ -58,60 +66,28 @@ fn write_run<K: Sink>(sink: &mut K, steps: u32, mut machine: Machine) -> Result<
     put_steps(sink, taken)
 }
 
-impl Prepared {
-    pub fn status(&self) -> Status
-        ensures { result ≡ (prepared_answer self.now).status }
-    {
-        match self {
-            Prepared::Refused(_) => Status::BadSource,
-            Prepared::Ready { .. } => Status::Done,
-        }
-    }
-
-    pub fn write<K: Sink>(self, sink: &mut K) -> Result<(), WriteFail>
-        ensures text { Writes (K.written sink.old) (K.written sink.new) (prepared_answer self).text result }
-        ensures cause { HasCause (K.faults sink.old) (K.faults sink.new) result }
-    {
-        match self {
-            Prepared::Refused(kind) => kind.write(sink),
-            Prepared::Ready { steps, machine } => write_run(sink, steps, machine),
-        }
-    }
-}
-
-/// The refusal of this kind, or want of memory.
-fn refuse(kind: Option<SourceFault>) -> Result<Prepared, NoMemory>
-    ensures { result ≡ refused_run kind }
+/// Steps, and writes what is put out as it comes. Takes no memory.
+pub fn write_run<K: Sink>(sink: &mut K, ready: Ready) -> Result<(), WriteFail>
+    ensures text { Writes (K.written sink.old) (K.written sink.new) (ready_answer ready).text result }
+    ensures cause { HasCause (K.faults sink.old) (K.faults sink.new) result }
 {
-    match kind {
-        Some(kind) => Ok(Prepared::Refused(kind)),
-        None => Err(NoMemory),
-    }
+    let Ready {
+        steps,
+        program,
+        state,
+    } = ready;
+    write_steps(sink, steps, &program, state)
 }
 
 /// Prepares the run of so many steps of a source. It takes all memory of the command.
-pub fn prepare_run(alloc: Global, steps: u32, source: &[u8]) -> Result<Prepared, NoMemory>
-    ensures { IfOk result (λ prepared. RunCallsFor steps source.now (prepared_answer prepared)) }
+pub fn prepare_run(alloc: Global, steps: u32, source: &[u8]) -> Result<Ready, Stop>
+    ensures { MatchResult result (λ ready. RunCallsFor steps source.now (ready_answer ready)) (λ stop. StopsFor source.now stop) }
 {
-    if source.len() > MOST_SOURCE {
-        return Ok(Prepared::Refused(SourceFault::TooLong));
-    }
-    one_lexing();
-    let found = match tokens(alloc, source) {
-        Ok(found) => found,
-        Err(fault) => return refuse(kind_of_token_fault(fault)),
-    };
-    let tokens = found.as_slice();
-    let tree = match parse(alloc, tokens, source) {
-        Ok(tree) => tree,
-        Err(fault) => return refuse(kind_of_syntax_fault(fault)),
-    };
-    if let Err(fault) = verdict(alloc, &tree) {
-        return refuse(kind_of_type_fault(fault));
-    }
-    match small(alloc, tokens, source) {
-        Ok(machine) => Ok(Prepared::Ready { steps, machine }),
-        Err(Stop::Early) => Ok(Prepared::Refused(SourceFault::Early)),
-        Err(Stop::NoMemory) => Err(NoMemory),
-    }
+    let program = program_of(alloc, source)?;
+    let state = State::first(alloc, &program)?;
+    Ok(Ready {
+        steps,
+        program,
+        state,
+    })
 }

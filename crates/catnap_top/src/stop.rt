@@ -1,31 +1,20 @@
-use std::alloc::{AllocError, AllocFailed};
+use crate::refusal::SourceFault;
+use cn_base::NoMemory;
 
-/// Why a source gives no machine.
+/// Why a source gives no program.
 #[derive(Clone, Copy, Debug, PartialEq, Eq)]
 pub enum Stop {
     NoMemory,
-    /// The source is not one that is taken yet.
-    Early,
+    Refused(SourceFault),
 }
 
-impl From<AllocError> for Stop {
+impl From<NoMemory> for Stop {
     ghost use Rattle.std.specs.Prelude.{◌≡◌};
-    ghost use Rattle.catnap_top.specs.declared.stop.Stop.TheVariants.{NoMemory};
+    ghost use Rattle.catnap_top.specs.declared.stop.Stop.TheVariants as stop;
 
-    ghost from_gives = { λ _ e. e ≡ NoMemory };
+    ghost from_gives = { λ _ e. e ≡ stop.NoMemory };
 
-    fn from(_: AllocError) -> Stop {
-        Stop::NoMemory
-    }
-}
-
-impl<T: Drop> From<AllocFailed<T>> for Stop {
-    ghost use Rattle.std.specs.Prelude.{◌≡◌};
-    ghost use Rattle.catnap_top.specs.declared.stop.Stop.TheVariants.{NoMemory};
-
-    ghost from_gives = { λ _ e. e ≡ NoMemory };
-
-    fn from(_: AllocFailed<T>) -> Stop {
+    fn from(_: NoMemory) -> Stop {
         Stop::NoMemory
     }
 }

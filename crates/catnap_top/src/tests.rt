@@ -34,8 +34,10 @@ fn get(alloc: Global, words: &[String], source: &[u8], room: u32) -> Result<Got,
 }
 
 #[test]
-fn runs_small_sources(rt: HostRuntime) -> Result<(), Fail> {
+fn runs_sources(rt: HostRuntime) -> Result<(), Fail> {
     let least = "int x = -2147483647; int y = 2147483647; task t { out 255, x - y - 2; } start t;";
+    let turns = "int x = 0; bool b = true; task t { while x < 2 { x = x + 1; } out 1, x; post u; } \
+                 task u { if b { out 2, 1; } else { out 2, 2; } } start t;";
     for (source, steps, status, text) in [
         (S1, "0", 0, "steps 0\n"),
         ("", "5", 0, "steps 0\n"),
@@ -43,6 +45,8 @@ fn runs_small_sources(rt: HostRuntime) -> Result<(), Fail> {
         (S1, "0000003", 0, "out 1 1\nsteps 3\n"),
         (S1, "1000000", 0, "out 1 1\nsteps 4\n"),
         (least, "9", 0, "out 255 0\nsteps 3\n"),
+        (turns, "9", 0, "out 1 2\nsteps 9\n"),
+        (turns, "99", 0, "out 1 2\nout 2 1\nsteps 13\n"),
         (S1, "00000003", 2, "fault usage\n"),
         (S1, "1000001", 2, "fault usage\n"),
         (S1, "", 2, "fault usage\n"),
@@ -57,30 +61,17 @@ fn runs_small_sources(rt: HostRuntime) -> Result<(), Fail> {
 }
 
 #[test]
-fn refuses_other_sources(rt: HostRuntime) -> Result<(), Fail> {
+fn refuses_sources(rt: HostRuntime) -> Result<(), Fail> {
     let words = words(rt.alloc(), "run", "s1", "9")?;
     for (source, text) in [
-        (
-            "int x = 0; task t { x = (x); } start t;",
-            "fault source Early\n",
-        ),
-        (
-            "int x = 0; task t { x = x * 2; } start t;",
-            "fault source Early\n",
-        ),
-        ("task t { out 1, -1; } start t;", "fault source Early\n"),
         (
             "task t { out 256, 1; } start t;",
             "fault source BadNumber\n",
         ),
         ("task t { x = 1; } start t;", "fault source Unknown\n"),
         ("task t { } start u;", "fault source Unknown\n"),
-        ("task t { }", "fault source Early\n"),
-        ("task t { } task u { } start t;", "fault source Early\n"),
-        ("task t { } start t; int x = 0;", "fault source Early\n"),
         ("int t = 0; task t { } start t;", "fault source Twice\n"),
         ("int x = 0; int x = 1;", "fault source Twice\n"),
-        ("bool x = true;", "fault source Early\n"),
         ("int x = 2147483648;", "fault source IntTooLarge\n"),
         ("int x = 0", "fault source Syntax\n"),
         ("int $", "fault source BadByte\n"),
@@ -128,5 +119,25 @@ fn runs_in_silence(rt: HostRuntime) -> Result<(), Fail> {
     let status = catnap(rt.alloc(), words.as_slice(), &mut inputs, &mut sink);
     assert_eq!(rt; status.number(), 0);
     assert_eq!(rt; sink.bytes(), b"steps 0\n".as_slice());
+    Ok(())
+}
+
+#[test]
+fn lists_code(rt: HostRuntime) -> Result<(), Fail> {
+    let words = vec![in rt.alloc();
+        String::from_str(rt.alloc(), "list")?,
+        String::from_str(rt.alloc(), "s1")?,
+    ]?;
+    let listing =
+        "task t 0\n0 begin 0\n1 load 0\n2 push 1\n3 add\n4 store 0\n5 load 0\n6 out 1\n7 end\n";
+    for (source, status, text) in [
+        (S1, 0, listing),
+        ("", 0, ""),
+        ("start t;", 5, "fault source Unknown\n"),
+    ] {
+        let got = get(rt.alloc(), words.as_slice(), source.as_bytes(), 200)?;
+        assert_eq!(rt; got.status.number(), status, "{source}");
+        assert_eq!(rt; got.sink.bytes(), text.as_bytes(), "{source}");
+    }
     Ok(())
 }

@@ -9,6 +9,8 @@ const MOST_STEPS: u32 = 1_000_000;
 pub enum Form {
     /// `run SRC STEPS`
     Run { steps: u32 },
+    /// `list SRC`
+    List,
 }
 
 impl Form {
@@ -17,7 +19,7 @@ impl Form {
         ensures { result ≡ file_count self.now }
     {
         match self {
-            Form::Run { .. } => 1,
+            Form::Run { .. } | Form::List => 1,
         }
     }
 }
@@ -57,6 +59,7 @@ pub fn form_in(words: &[String]) -> Option<Form>
             let steps = number(steps.as_str(), 7, MOST_STEPS)?;
             Some(Form::Run { steps })
         }
+        [command, _] if command.as_str() == "list" => Some(Form::List),
         _ => None,
     }
 }

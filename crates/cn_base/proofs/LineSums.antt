@@ -22,3 +22,9 @@ line_all xs i d lt =
     ap (λ t. line_text (take i xs) ++ line_text t) (sym (drop-cons xs i d lt))
     ∙ sym (line_append (take i xs) (drop i xs))
     ∙ ap line_text (take-append-drop i xs)
+
+-- a line with one more piece
+pub line_grown : (xs : List Piece) (i : ℕ) (d : Piece) (before now : List ℕ) → now ≡ before ++ piece_text (get_or xs i d)
+    → before ≡ line_text (take i xs) → i < length xs → now ≡ line_text (take (i + 1) xs)
+line_grown xs i d before now grown e lt =
+    grown ∙ ap (λ x. x ++ piece_text (get_or xs i d)) e ∙ sym (line_more xs i d lt)

@@ -5,3 +5,4 @@ pub mod Memory
 pub mod Lines
 pub mod Sums
 pub mod Nests
+pub mod Versions

@@ -21,6 +21,7 @@ pub use list::List;
 pub use memory::{AskedRead, File, MemInputs, MemSink, SilentInputs, SilentSink};
 pub use putting::{put, put_num};
 pub use sink::{Sink, WriteFail};
+use std::alloc::AllocError;
 pub use text::Text;
 
 /// The greatest number of ticks of a trace, and so of a board's life, in ticks.
@@ -29,3 +30,9 @@ pub const MOST_TICKS: u32 = 1_000_000;
 /// Want of memory: the refusal of a call that can fail for nothing else.
 #[derive(Clone, Copy, Debug, PartialEq, Eq)]
 pub struct NoMemory;
+
+impl From<AllocError> for NoMemory {
+    fn from(_: AllocError) -> NoMemory {
+        NoMemory
+    }
+}

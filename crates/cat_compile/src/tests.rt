@@ -1,0 +1,54 @@
+use crate::lines::{put_instr, put_task, put_version};
+use cat_machine::Instr;
+use cat_program::{Operator, Sign};
+use cn_base::MemSink;
+use std::test::Fail;
+
+const LISTED: &[u8] = b"task t 0
+0 begin 0
+1 load 0
+2 push -1
+3 add
+4 store 0
+5 neg
+6 payload
+7 loadat 1 8
+8 storeat 1 8
+9 jumpzero 12
+10 jump 1
+11 turn 4
+12 out 255
+13 post 1
+event e 1 14
+14 end
+";
+
+#[test]
+fn lines_of_a_listing(rt: HostRuntime) -> Result<(), Fail> {
+    let instrs = [
+        Instr::Begin(0),
+        Instr::Load(0),
+        Instr::Push(-1),
+        Instr::Operate(Operator::Add),
+        Instr::Store(0),
+        Instr::Signed(Sign::Neg),
+        Instr::Payload,
+        Instr::LoadAt { base: 1, len: 8 },
+        Instr::StoreAt { base: 1, len: 8 },
+        Instr::JumpZero(12),
+        Instr::Jump(1),
+        Instr::Turn(4),
+        Instr::Out(255),
+        Instr::Post(1),
+        Instr::End,
+    ];
+    let mut sink = MemSink::new(rt.alloc(), 300, 7)?;
+    for (place, instr) in instrs.iter().enumerate() {
+        let pc = place as u32;
+        put_task(&mut sink, "t", 0, pc)?;
+        put_version(&mut sink, "e", 1, 14, pc)?;
+        put_instr(&mut sink, pc, *instr)?;
+    }
+    assert_eq!(rt; sink.bytes(), LISTED);
+    Ok(())
+}
