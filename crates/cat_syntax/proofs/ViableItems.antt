@@ -15,6 +15,7 @@ use Rattle.cat_syntax.specs.Statements.{block}
 use Rattle.cat_syntax.specs.Items.{magnitude, minus, initial, plain, array, declared, int, truth, bool, task, every, spacing, timed, another_version, versions, event, another_name, name_list, degrade, start, one_item, is_left, program}
 use Rattle.cat_syntax.proofs.Readers.{sees_is, sees_keyword_is}
 use Rattle.cat_syntax.proofs.SoundItems.{truth_word, bool_is}
+use Rattle.cat_syntax.proofs.Heads.{after_int, after_length, after_bool, after_task, after_every, after_spacing, event_versions, event_deadline, after_event, after_degrade, after_start}
 use Rattle.cat_syntax.proofs.Viable.{Completes, Viable, Next, Behind, viable_then, regrouped, wider, viable_pure, viable_map, refuses, behind, viable_expect, viable_keyword, viable_name, viable_number, viable_close, Step, OneMore, From, viable_many, viable_all, viable_where}
 use Rattle.cat_syntax.proofs.ViableStatements.{block_viable}
 
@@ -41,7 +42,7 @@ module _ (x : List ℕ) where
       by true e = behind (Behind (symbol s.Assign) IsDeclared) (symbol s.Minus) ts (after ts) (magnitude x true (after ts)) (sees_is s.Minus ts e)
           (magnitude_viable (Behind (symbol s.Minus) (Behind (symbol s.Assign) IsDeclared)) x true (λ n end. g.minus) (after ts))
 
-  array_viable : Viable (Behind (symbol s.LeftBracket) IsDeclared) (read_number >>= λ n. expect s.RightBracket >> expect s.Semicolon >> pure (item.Array x n))
+  array_viable : Viable (Behind (symbol s.LeftBracket) IsDeclared) (after_length x)
   array_viable = viable_number (Behind (symbol s.LeftBracket) IsDeclared) (λ n. expect s.RightBracket >> expect s.Semicolon >> pure (item.Array x n)) (λ n.
       let whole = Behind (number n) (Behind (symbol s.LeftBracket) IsDeclared) in
       regrouped whole (expect s.RightBracket) (λ _. expect s.Semicolon) (λ _. pure (item.Array x n))
@@ -55,7 +56,7 @@ module _ (x : List ℕ) where
   declared_viable (symbol s.LeftBracket ∷ us) = behind IsDeclared (symbol s.LeftBracket) (symbol s.LeftBracket ∷ us) us _ refl (array_viable us)
   declared_viable ts = refuses IsDeclared ts (item.Int x false 0) (λ end. (symbol s.Assign ∷ number 0 ∷ symbol s.Semicolon ∷ end, g.int))
 
-int_viable : Viable (Behind (keyword k.Int) IsItem) (read_name >>= declared)
+int_viable : Viable (Behind (keyword k.Int) IsItem) after_int
 int_viable = viable_name (Behind (keyword k.Int) IsItem) declared declared_viable
 
 IsTruth : Lexemes → Bool → Lexemes → Type 0
@@ -67,7 +68,7 @@ truth_viable (keyword k.True ∷ us) = (keyword k.True ∷ [], refl, λ other. r
 truth_viable (keyword k.False ∷ us) = (keyword k.False ∷ [], refl, λ other. refl)
 truth_viable ts = refuses IsTruth ts true (λ end. (keyword k.True ∷ end, refl))
 
-bool_viable : Viable (Behind (keyword k.Bool) IsItem) (read_name >>= λ x. expect s.Assign >> truth >>= λ b. expect s.Semicolon >> pure (item.Bool x b))
+bool_viable : Viable (Behind (keyword k.Bool) IsItem) after_bool
 unfolding IsTruth
 bool_viable = viable_name (Behind (keyword k.Bool) IsItem) (λ x. expect s.Assign >> truth >>= λ b. expect s.Semicolon >> pure (item.Bool x b)) (λ x.
     let whole = Behind (name x) (Behind (keyword k.Bool) IsItem) in
@@ -78,12 +79,12 @@ bool_viable = viable_name (Behind (keyword k.Bool) IsItem) (λ x. expect s.Assig
 
 -- ---- tasks and events
 
-task_viable : (room : ℕ) → Viable (Behind (keyword k.Task) IsItem) (read_name >>= λ x. block room >>= λ xs. pure (item.Task x xs))
+task_viable : (room : ℕ) → Viable (Behind (keyword k.Task) IsItem) (after_task room)
 task_viable room = viable_name (Behind (keyword k.Task) IsItem) (λ x. block room >>= λ xs. pure (item.Task x xs)) (λ x.
     viable_map (Behind (name x) (Behind (keyword k.Task) IsItem)) (λ xs. item.Task x xs) (block room)
     (λ us. wider IsBlock (λ vs xs end. IsItem (keyword k.Task ∷ name x ∷ vs) (item.Task x xs) end) (λ xs vs end d. g.task d) us (block room us) (block_viable room us)))
 
-every_viable : Viable (Behind (keyword k.Every) IsTiming) (read_number >>= λ n. expect_keyword k.Offset >> read_number >>= λ m. pure (timing.Every n m))
+every_viable : Viable (Behind (keyword k.Every) IsTiming) after_every
 every_viable = viable_number (Behind (keyword k.Every) IsTiming) (λ n. expect_keyword k.Offset >> read_number >>= λ m. pure (timing.Every n m)) (λ n.
     let whole = Behind (number n) (Behind (keyword k.Every) IsTiming) in
     regrouped whole (expect_keyword k.Offset) (λ _. read_number) (λ m. pure (timing.Every n m))
@@ -91,7 +92,7 @@ every_viable = viable_number (Behind (keyword k.Every) IsTiming) (λ n. expect_k
     (viable_number (Behind (keyword k.Offset) whole) (λ m. pure (timing.Every n m))
     (λ m. viable_pure (Behind (number m) (Behind (keyword k.Offset) whole)) (timing.Every n m) (λ end. g.every)))))
 
-spacing_viable : Viable (Behind (keyword k.Spacing) IsTiming) (read_number >>= λ n. pure (timing.Spacing n))
+spacing_viable : Viable (Behind (keyword k.Spacing) IsTiming) after_spacing
 spacing_viable = viable_number (Behind (keyword k.Spacing) IsTiming) (λ n. pure (timing.Spacing n))
     (λ n. viable_pure (Behind (number n) (Behind (keyword k.Spacing) IsTiming)) (timing.Spacing n) (λ end. g.spacing))
 
@@ -122,14 +123,14 @@ event_is : {ts mid end : Lexemes} {x : List ℕ} {t : Timing} {n : ℕ} {all : L
 unfolding AllVersions
 event_is {ts = ts} {end = end} {x = x} {t = t} {n = n} d v = subst (λ all. IsItem (keyword k.Event ∷ name x ∷ ts) (item.Event x t n all) end) v.3 (g.event d v.4 v.5)
 
-event_viable : (room : ℕ) → Viable (Behind (keyword k.Event) IsItem) (read_name >>= λ x. timed >>= λ t. expect_keyword k.Deadline >> read_number >>= λ n. versions room >>= λ yss. pure (item.Event x t n yss))
-event_viable room = viable_name (Behind (keyword k.Event) IsItem) (λ x. timed >>= λ t. expect_keyword k.Deadline >> read_number >>= λ n. versions room >>= λ yss. pure (item.Event x t n yss)) (λ x.
+event_viable : (room : ℕ) → Viable (Behind (keyword k.Event) IsItem) (after_event room)
+event_viable room = viable_name (Behind (keyword k.Event) IsItem) (λ x. timed >>= event_deadline room x) (λ x.
     let whole = Behind (name x) (Behind (keyword k.Event) IsItem) in
-    viable_then IsTiming whole timed (λ t. expect_keyword k.Deadline >> read_number >>= λ n. versions room >>= λ yss. pure (item.Event x t n yss)) timed_viable (λ t.
+    viable_then IsTiming whole timed (event_deadline room x) timed_viable (λ t.
     let rest = Next IsTiming whole t in
-    regrouped rest (expect_keyword k.Deadline) (λ _. read_number) (λ n. versions room >>= λ yss. pure (item.Event x t n yss))
-    (viable_keyword rest k.Deadline (read_number >>= λ n. versions room >>= λ yss. pure (item.Event x t n yss))
-    (viable_number (Behind (keyword k.Deadline) rest) (λ n. versions room >>= λ yss. pure (item.Event x t n yss)) (λ n.
+    regrouped rest (expect_keyword k.Deadline) (λ _. read_number) (event_versions room x t)
+    (viable_keyword rest k.Deadline (read_number >>= event_versions room x t)
+    (viable_number (Behind (keyword k.Deadline) rest) (event_versions room x t) (λ n.
     viable_map (Behind (number n) (Behind (keyword k.Deadline) rest)) (λ yss. item.Event x t n yss) (versions room)
     (λ us. wider AllVersions (λ vs yss end. rest (keyword k.Deadline ∷ number n ∷ vs) (item.Event x t n yss) end) (λ yss vs end v ts d. event_is d v) us (versions room us) (versions_viable room us)))))))
 
@@ -160,10 +161,10 @@ unfolding AllNames
 degrade_is {end = end} {all = all} v =
     subst (λ us. IsItem (keyword k.Degrade ∷ us) (item.Degrade all) end) v.4 (subst (λ xs. IsItem (keyword k.Degrade ∷ name v.0 ∷ v.2) (item.Degrade xs) end) v.3 (g.degrade v.5))
 
-degrade_viable : Viable (Behind (keyword k.Degrade) IsItem) (name_list >>= λ xs. expect s.Semicolon >> pure (item.Degrade xs))
+degrade_viable : Viable (Behind (keyword k.Degrade) IsItem) after_degrade
 degrade_viable = viable_close AllNames (Behind (keyword k.Degrade) IsItem) s.Semicolon (λ xs. item.Degrade xs) name_list (λ xs ts end v. degrade_is v) names_viable
 
-start_viable : Viable (Behind (keyword k.Start) IsItem) (read_name >>= λ x. expect s.Semicolon >> pure (item.Start x))
+start_viable : Viable (Behind (keyword k.Start) IsItem) after_start
 start_viable = viable_name (Behind (keyword k.Start) IsItem) (λ x. expect s.Semicolon >> pure (item.Start x))
     (λ x. viable_expect (Behind (name x) (Behind (keyword k.Start) IsItem)) s.Semicolon (pure (item.Start x))
     (viable_pure (Behind (symbol s.Semicolon) (Behind (name x) (Behind (keyword k.Start) IsItem))) (item.Start x) (λ end. g.start)))

@@ -12,6 +12,7 @@ use Rattle.cat_syntax.specs.Reader.{Lexemes, Reader, ◌>>=◌, ◌>>◌, pure, 
 use Rattle.cat_syntax.specs.Reading.{nested}
 use Rattle.cat_syntax.specs.Statements.{value, set, set_at, assigned_by, assigned, output, posted, else_block, otherwise, branched, looped, repeated, statement_by, statement, goes_on, statements, braces, block}
 use Rattle.cat_syntax.proofs.Readers.{read, sees_keyword_is}
+use Rattle.cat_syntax.proofs.Heads.{after_out, after_post, after_if, after_while, after_repeat}
 use Rattle.cat_syntax.proofs.Viable.{Completes, Viable, Next, Behind, viable_then, regrouped, wider, viable_pure, viable_map, refuses, behind, viable_expect, viable_name, viable_number, viable_close, Step, OneMore, viable_all, viable_where}
 use Rattle.cat_syntax.proofs.ViableExpr.{a_number, nested_viable}
 
@@ -42,13 +43,13 @@ module _ (room : ℕ) where
       (λ vs. wider IsValue (Behind (symbol s.Assign) (Behind (symbol s.RightBracket) part)) (λ e ws end d us di. g.set_at di d) vs (value room vs) (value_viable room vs)))))) us)
   assigned_viable x ts = refuses (Behind (name x) IsStatement) ts (stmt.Set x _) (λ end. (symbol s.Assign ∷ number 0 ∷ symbol s.Semicolon ∷ end, g.set (a_number (symbol s.Semicolon ∷ end))))
 
-  output_viable : Viable (Behind (keyword k.Out) IsStatement) (read_number >>= λ n. expect s.Comma >> value room >>= λ e. pure (stmt.Out n e))
+  output_viable : Viable (Behind (keyword k.Out) IsStatement) (after_out room)
   output_viable = viable_number (Behind (keyword k.Out) IsStatement) (λ n. expect s.Comma >> value room >>= λ e. pure (stmt.Out n e))
       (λ n. viable_map (Behind (number n) (Behind (keyword k.Out) IsStatement)) (λ e. stmt.Out n e) (expect s.Comma >> value room)
       (viable_expect (λ ts e end. IsStatement (keyword k.Out ∷ number n ∷ ts) (stmt.Out n e) end) s.Comma (value room)
       (λ vs. wider IsValue (λ ws e end. IsStatement (keyword k.Out ∷ number n ∷ symbol s.Comma ∷ ws) (stmt.Out n e) end) (λ e ws end d. g.out d) vs (value room vs) (value_viable room vs))))
 
-  posted_viable : Viable (Behind (keyword k.Post) IsStatement) (read_name >>= λ x. expect s.Semicolon >> pure (stmt.Post x))
+  posted_viable : Viable (Behind (keyword k.Post) IsStatement) after_post
   posted_viable = viable_name (Behind (keyword k.Post) IsStatement) (λ x. expect s.Semicolon >> pure (stmt.Post x))
       (λ x. viable_expect (Behind (name x) (Behind (keyword k.Post) IsStatement)) s.Semicolon (pure (stmt.Post x))
       (viable_pure (λ ts y end. IsStatement (keyword k.Post ∷ name x ∷ symbol s.Semicolon ∷ ts) y end) (stmt.Post x) (λ ts. g.post)))
@@ -66,7 +67,7 @@ module _ (room : ℕ) (block : Reader (List Stmt)) (law : Viable IsBlock block) 
           (viable_map (Behind (keyword k.Else) IsElse) (λ ys. Some ys) block
           (λ us. wider IsBlock (λ vs ys end. IsElse (keyword k.Else ∷ vs) (Some ys) end) (λ ys vs end d. g.else_block d) us (block us) (law us)) (after ts))
 
-  branched_viable : Viable (Behind (keyword k.If) IsStatement) (nested (suc room) >>= λ e. block >>= λ xs. otherwise room block >>= λ ys. pure (stmt.If e xs ys))
+  branched_viable : Viable (Behind (keyword k.If) IsStatement) (after_if room block)
   branched_viable =
       let whole = Behind (keyword k.If) IsStatement in
       viable_then IsExpr whole (nested (suc room)) (λ e. block >>= λ xs. otherwise room block >>= λ ys. pure (stmt.If e xs ys)) (nested_viable (suc room))
@@ -74,14 +75,14 @@ module _ (room : ℕ) (block : Reader (List Stmt)) (law : Viable IsBlock block) 
       (λ xs. viable_map (Next IsBlock (Next IsExpr whole e) xs) (λ ys. stmt.If e xs ys) (otherwise room block)
       (λ us. wider IsElse (λ vs ys end. Next IsBlock (Next IsExpr whole e) xs vs (stmt.If e xs ys) end) (λ ys vs end o mid b ts d. g.branch d b o) us (otherwise room block us) (otherwise_viable us))))
 
-  looped_viable : Viable (Behind (keyword k.While) IsStatement) (nested (suc room) >>= λ e. block >>= λ xs. pure (stmt.While e xs))
+  looped_viable : Viable (Behind (keyword k.While) IsStatement) (after_while room block)
   looped_viable =
       let whole = Behind (keyword k.While) IsStatement in
       viable_then IsExpr whole (nested (suc room)) (λ e. block >>= λ xs. pure (stmt.While e xs)) (nested_viable (suc room))
       (λ e. viable_map (Next IsExpr whole e) (λ xs. stmt.While e xs) block
       (λ us. wider IsBlock (λ vs xs end. Next IsExpr whole e vs (stmt.While e xs) end) (λ xs vs end b ts d. g.while d b) us (block us) (law us)))
 
-  repeated_viable : Viable (Behind (keyword k.Repeat) IsStatement) (read_number >>= λ n. block >>= λ xs. pure (stmt.Repeat n xs))
+  repeated_viable : Viable (Behind (keyword k.Repeat) IsStatement) (after_repeat room block)
   repeated_viable =
       let whole = Behind (keyword k.Repeat) IsStatement in
       viable_number whole (λ n. block >>= λ xs. pure (stmt.Repeat n xs))
