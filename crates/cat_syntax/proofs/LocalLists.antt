@@ -1,9 +1,9 @@
 -- The readers of lists look no further than the token at which they stop.
 use Rattle.std.proofs.Common.{◌≡◌, ℕ, zero, suc, ◌+◌, ◌<◌, Bool, true, false, List, [], ◌∷◌, ◌++◌, length, Option, Some, None, Ok, Err, refl, sym, ap, subst, ◌∙◌, append_assoc, arith, length-append}
 use Rattle.cat_syntax.specs.Depth.{IsShallow}
-use Rattle.cat_syntax.specs.Reader.{Lexemes, Outcome, Reader, and_then, pure, many_by, many_from, many, one_if, one_where}
+use Rattle.cat_syntax.specs.Reader.{Lexemes, Outcome, Reader, and_then, ◌>>=◌, pure, many_by, many_from, many, one_if, one_where}
 use Rattle.cat_syntax.proofs.Readers.{read}
-use Rattle.cat_syntax.proofs.Local.{SameHead, head_append, Agrees, Local, local_pure, moves_map, local_by}
+use Rattle.cat_syntax.proofs.Local.{SameHead, head_append, Agrees, Local, local_pure, joins, local_by}
 
 -- ---- lists: with turns enough, how many there are does not matter
 
@@ -84,9 +84,12 @@ module _ {A : Type 0} (room : ℕ) (step step' : Reader (Option A)) (law : Local
 
 -- ---- one more where a test of the next token holds
 
-pub local_where : {A : Type 0} (room : ℕ) (test : Lexemes → Bool) (heads : (a b : Lexemes) → SameHead a b → test a ≡ test b) (q p : Reader A) → Local room p q → Local room (one_where test p) (one_where test q)
+pub local_where : {A : Type 0} (room : ℕ) (test : Lexemes → Bool) (heads : (a b : Lexemes) → SameHead a b → test a ≡ test b) (q p : Reader A) → ((ts : Lexemes) → test ts ≡ true → IsShallow ts room → Agrees q room ts (p ts)) → Local room (one_where test p) (one_where test q)
 local_where room test heads q p law = local_by room test heads (λ b. one_if b q) (λ b. one_if b p) choice
   where
+    some : (ts : Lexemes) (o : Outcome _) → Agrees q room ts o → Agrees (q >>= λ x. pure (Some x)) room ts (and_then o (λ x. pure (Some x)))
+    some ts o c = joins room room q (λ x. pure (Some x)) (λ x. pure (Some x)) (λ x. local_pure room (Some x)) ts o c
+
     choice : (b : Bool) (ts : Lexemes) → test ts ≡ b → IsShallow ts room → Agrees (one_if b q) room ts (one_if b p ts)
-    choice true ts e h = moves_map room room (λ x. Some x) q p law ts h
+    choice true ts e h = some ts (p ts) (law ts e h)
     choice false ts e h = local_pure room None ts h
