@@ -1,9 +1,8 @@
 -- The readers of items look no further than the token at which they stop.
-use Rattle.std.proofs.Common.{◌≡◌, ℕ, zero, suc, ◌<◌, ◌≤◌, Bool, true, false, cond, List, [], ◌∷◌, ◌++◌, length, Option, Some, None, Err, refl, ap, arith, subst}
+use Rattle.std.proofs.Common.{◌≡◌, ℕ, zero, suc, ◌≤◌, Bool, true, false, cond, List, [], ◌∷◌, refl}
 use Rattle.cat_tokens.specs.declared.token.Keyword.TheVariants as k
 use Rattle.cat_tokens.specs.declared.token.Symbol.TheVariants as s
-use Rattle.cat_tokens.specs.Lexemes.{keyword, name, number, symbol}
-use Rattle.cn_base.specs.declared.tree.Stmt.{Stmt}
+use Rattle.cat_tokens.specs.Lexemes.{keyword, symbol}
 use Rattle.cn_base.specs.declared.tree.Timing.TheVariants as timing
 use Rattle.cn_base.specs.declared.tree.Item.{Item}
 use Rattle.cn_base.specs.declared.tree.Item.TheVariants as item
@@ -14,7 +13,7 @@ use Rattle.cat_syntax.specs.Items.{magnitude, minus, initial, plain, array, decl
 use Rattle.cat_syntax.proofs.Readers.{sees_is, sees_keyword_is, where_some}
 use Rattle.cat_syntax.proofs.ItemSteps.{version_read_shorter, name_read_shorter, item_read_shorter}
 use Rattle.cat_syntax.proofs.Heads.{after_int, after_length, after_bool, after_task, after_every, after_spacing, event_versions, event_deadline, after_event, after_degrade, after_start}
-use Rattle.cat_syntax.proofs.Local.{SameHead, Agrees, Moves, Local, local_pure, local_then, moves_then, moves_map, local_by, chosen, behind}
+use Rattle.cat_syntax.proofs.Local.{SameHead, Agrees, Local, local_pure, local_then, moves_then, moves_map, chosen, behind}
 use Rattle.cat_syntax.proofs.LocalLists.{local_many, local_where}
 use Rattle.cat_syntax.proofs.LocalTokens.{symbol_heads, keyword_heads, sees_heads, sees_keyword_heads, moves_expect, local_expect, local_close, local_keyword, local_name, local_number}
 use Rattle.cat_syntax.proofs.LocalStatements.{local_block}

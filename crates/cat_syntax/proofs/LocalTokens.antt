@@ -1,12 +1,11 @@
 -- The readers of tokens look at one token.
-use Rattle.std.proofs.Common.{◌≡◌, ℕ, Bool, true, false, List, [], ◌∷◌, Option, Some, None, Ok, Err, refl, sym, ap, subst, ◌∙◌}
-use Rattle.std.specs.Prelude.{option_and_then}
+use Rattle.std.proofs.Common.{◌≡◌, ℕ, Bool, true, false, List, [], ◌∷◌, Option, Some, Ok, Err, refl, sym, ap, subst, ◌∙◌}
 use Rattle.cat_tokens.specs.declared.token.Keyword.{Keyword}
 use Rattle.cat_tokens.specs.declared.token.Symbol.{Symbol}
 use Rattle.cat_tokens.specs.declared.token.What.{What}
 use Rattle.cat_tokens.specs.declared.token.What.TheVariants as what
-use Rattle.cat_tokens.specs.Lexemes.{Lexeme, keyword, name, number, symbol, kind}
-use Rattle.cat_syntax.specs.Depth.{IsShallow, change, keeps, opens, closes}
+use Rattle.cat_tokens.specs.Lexemes.{Lexeme, keyword, name, number, symbol}
+use Rattle.cat_syntax.specs.Depth.{IsShallow, change, keeps}
 use Rattle.cat_syntax.specs.Reader.{Lexemes, Outcome, Reader, ◌>>=◌, ◌>>◌, pure, next, next_symbol, next_keyword, is_symbol, is_keyword, after, sees, sees_keyword, expect, expect_keyword, read_name, read_number}
 use Rattle.cat_syntax.proofs.Readers.{read, sees_is, sees_keyword_is}
 use Rattle.cat_syntax.proofs.Complete.{kept}

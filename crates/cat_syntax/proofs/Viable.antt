@@ -95,6 +95,10 @@ pub behind : {A : Type 0} (Q : Rule A) (t : Lexeme) (ts us : Lexemes) (o : Outco
 behind Q t ts us (Ok (a, rest)) same (front, e, law) = (t ∷ front, same ∙ ap (λ x. t ∷ x) e, law)
 behind Q t ts us (Err rest) same (front, e, a, law) = (t ∷ front, same ∙ ap (λ x. t ∷ x) e, a, law)
 
+-- the name `a`
+pub some_name : List ℕ
+some_name = 97 ∷ []
+
 abbrev taken : Bool → Lexemes → Outcome (Unit {0})
 taken b ts = cond b (read tt (after ts)) (Err ts)
 
@@ -118,14 +122,13 @@ module _ {B : Type 0} (Q : Rule B) where
       by true e = behind Q (keyword k) ts (after ts) (q (after ts)) (sees_keyword_is k ts e) (law (after ts))
       by false e = missing (keyword k) q law ts
 
-  -- the name `a`
   pub viable_name : (f : List ℕ → Reader B) → ((x : List ℕ) → Viable (Behind (name x) Q) (f x)) → Viable Q (read_name >>= f)
   unfolding read_name
   viable_name f law (name x ∷ ts) = behind Q (name x) (name x ∷ ts) ts (f x ts) refl (law x ts)
-  viable_name f law [] = missing (name (97 ∷ [])) (f (97 ∷ [])) (law (97 ∷ [])) []
-  viable_name f law (keyword k ∷ ts) = missing (name (97 ∷ [])) (f (97 ∷ [])) (law (97 ∷ [])) (keyword k ∷ ts)
-  viable_name f law (number n ∷ ts) = missing (name (97 ∷ [])) (f (97 ∷ [])) (law (97 ∷ [])) (number n ∷ ts)
-  viable_name f law (symbol s ∷ ts) = missing (name (97 ∷ [])) (f (97 ∷ [])) (law (97 ∷ [])) (symbol s ∷ ts)
+  viable_name f law [] = missing (name some_name) (f some_name) (law some_name) []
+  viable_name f law (keyword k ∷ ts) = missing (name some_name) (f some_name) (law some_name) (keyword k ∷ ts)
+  viable_name f law (number n ∷ ts) = missing (name some_name) (f some_name) (law some_name) (number n ∷ ts)
+  viable_name f law (symbol s ∷ ts) = missing (name some_name) (f some_name) (law some_name) (symbol s ∷ ts)
 
   pub viable_number : (f : ℕ → Reader B) → ((n : ℕ) → Viable (Behind (number n) Q) (f n)) → Viable Q (read_number >>= f)
   unfolding read_number

@@ -1,5 +1,5 @@
 -- What is read of an expression before it is refused goes on to an expression.
-use Rattle.std.proofs.Common.{◌≡◌, ℕ, zero, suc, Bool, true, false, cond, List, [], ◌∷◌, Option, Some, None, Err, refl, sym, subst}
+use Rattle.std.proofs.Common.{◌≡◌, ℕ, zero, suc, Bool, true, false, cond, List, [], ◌∷◌, Option, Some, None, refl, sym, subst}
 use Rattle.cat_tokens.specs.declared.token.Keyword.TheVariants as k
 use Rattle.cat_tokens.specs.declared.token.Symbol.TheVariants as s
 use Rattle.cat_tokens.specs.Lexemes.{keyword, name, number, symbol}
@@ -14,11 +14,11 @@ use Rattle.cat_syntax.specs.declared.level.Level.TheVariants as level
 use Rattle.cat_syntax.specs.Levels.{operator_of, comparison_of, sign_of}
 use Rattle.cat_syntax.specs.Grammar as g
 use Rattle.cat_syntax.specs.Grammar.{further, chained, IsChain, AreFurther, IsOperand, IsComparison, IsUnary, IsPrimary, IsExpr}
-use Rattle.cat_syntax.specs.Reader.{Lexemes, Reader, ◌>>=◌, pure, next, after, sees, expect, read_name, many}
-use Rattle.cat_syntax.specs.Reading.{next_operator, next_comparison, next_sign, further_by, one_further, chain, element, named, parenthesized, primary_by, primary, unary_by, unary, product, sum, compared_by, comparison, both, whole, nested}
+use Rattle.cat_syntax.specs.Reader.{Lexemes, Reader, ◌>>=◌, pure, after, sees, read_name, many}
+use Rattle.cat_syntax.specs.Reading.{next_operator, next_comparison, next_sign, further_by, one_further, chain, element, named, parenthesized, primary, unary_by, unary, product, sum, compared_by, comparison, both, whole, nested}
 use Rattle.cat_syntax.proofs.Readers.{read, sees_is}
 use Rattle.cat_syntax.proofs.Sound.{symbol_seen}
-use Rattle.cat_syntax.proofs.Viable.{Completes, Viable, Next, Behind, viable_then, wider, viable_pure, viable_map, refuses, behind, viable_close, Step, OneMore, viable_all}
+use Rattle.cat_syntax.proofs.Viable.{Completes, Viable, Next, Behind, viable_then, wider, viable_map, refuses, behind, viable_close, Step, OneMore, viable_all}
 
 abbrev IsFurther : Level → Lexemes → Further → Lexemes → Type 0
 IsFurther l = Step (AreFurther l) (λ ts. g.none)

@@ -1,5 +1,5 @@
 -- What is read of a program before it is refused goes on to a program.
-use Rattle.std.proofs.Common.{◌≡◌, ℕ, Bool, true, false, cond, List, [], ◌∷◌, ◌++◌, Err, refl, sym, ap, subst}
+use Rattle.std.proofs.Common.{◌≡◌, ℕ, Bool, true, false, cond, List, [], ◌∷◌, ◌++◌, Err, refl, sym, subst}
 use Rattle.cat_tokens.specs.declared.token.Keyword.TheVariants as k
 use Rattle.cat_tokens.specs.declared.token.Symbol.TheVariants as s
 use Rattle.cat_tokens.specs.Lexemes.{keyword, name, number, symbol}
@@ -10,17 +10,14 @@ use Rattle.cn_base.specs.declared.tree.Item.{Item}
 use Rattle.cn_base.specs.declared.tree.Item.TheVariants as item
 use Rattle.cat_syntax.specs.Grammar as g
 use Rattle.cat_syntax.specs.Grammar.{IsBlock, IsTiming, AreVersions, AreNames, IsItem, IsProgram}
-use Rattle.cat_syntax.specs.Reader.{Lexemes, Reader, ◌>>=◌, ◌>>◌, pure, next_symbol, after, sees, sees_keyword, expect, expect_keyword, read_name, read_number, many, one_where}
+use Rattle.cat_syntax.specs.Reader.{Lexemes, ◌>>=◌, ◌>>◌, pure, after, sees, sees_keyword, expect, expect_keyword, read_name, read_number, many, one_where}
 use Rattle.cat_syntax.specs.Statements.{block}
 use Rattle.cat_syntax.specs.Items.{magnitude, minus, initial, plain, array, declared, int, truth, bool, task, every, spacing, timed, another_version, versions, event, another_name, name_list, degrade, start, one_item, is_left, program}
 use Rattle.cat_syntax.proofs.Readers.{sees_is, sees_keyword_is}
 use Rattle.cat_syntax.proofs.SoundItems.{truth_word, bool_is}
 use Rattle.cat_syntax.proofs.Heads.{after_int, after_length, after_bool, after_task, after_every, after_spacing, event_versions, event_deadline, after_event, after_degrade, after_start}
-use Rattle.cat_syntax.proofs.Viable.{Completes, Viable, Next, Behind, viable_then, regrouped, wider, viable_pure, viable_map, refuses, behind, viable_expect, viable_keyword, viable_name, viable_number, viable_close, Step, OneMore, From, viable_many, viable_all, viable_where}
+use Rattle.cat_syntax.proofs.Viable.{Completes, Viable, Next, Behind, viable_then, regrouped, wider, viable_pure, viable_map, refuses, behind, viable_expect, viable_keyword, viable_name, viable_number, viable_close, some_name, Step, OneMore, From, viable_many, viable_all, viable_where}
 use Rattle.cat_syntax.proofs.ViableStatements.{block_viable}
-
-a : List ℕ
-a = 97 ∷ []
 
 -- ---- variables
 
@@ -147,7 +144,7 @@ further_names = viable_where AreNames (λ ts. g.no_name) (sees s.Comma) another_
   where
     a_name : (us : Lexemes) → Completes (Behind (symbol s.Comma) (Step AreNames (λ ts. g.no_name))) us (read_name us)
     a_name (name x ∷ us) = (name x ∷ [], refl, λ other xs end ds. g.names ds)
-    a_name us = refuses (Behind (symbol s.Comma) (Step AreNames (λ ts. g.no_name))) us a (λ end. (name a ∷ end, λ xs rest ds. g.names ds))
+    a_name us = refuses (Behind (symbol s.Comma) (Step AreNames (λ ts. g.no_name))) us some_name (λ end. (name some_name ∷ end, λ xs rest ds. g.names ds))
 
 names_viable : Viable AllNames name_list
 unfolding name_list AllNames
@@ -179,7 +176,7 @@ item_viable room (keyword k.Task ∷ us) = behind IsItem (keyword k.Task) (keywo
 item_viable room (keyword k.Event ∷ us) = behind IsItem (keyword k.Event) (keyword k.Event ∷ us) us _ refl (event_viable room us)
 item_viable room (keyword k.Degrade ∷ us) = behind IsItem (keyword k.Degrade) (keyword k.Degrade ∷ us) us _ refl (degrade_viable us)
 item_viable room (keyword k.Start ∷ us) = behind IsItem (keyword k.Start) (keyword k.Start ∷ us) us _ refl (start_viable us)
-item_viable room ts = refuses IsItem ts (item.Start a) (λ end. (keyword k.Start ∷ name a ∷ symbol s.Semicolon ∷ end, g.start))
+item_viable room ts = refuses IsItem ts (item.Start some_name) (λ end. (keyword k.Start ∷ name some_name ∷ symbol s.Semicolon ∷ end, g.start))
 
 -- items, after which nothing is left
 AreItems : Lexemes → List Item → Lexemes → Type 0

@@ -1,5 +1,5 @@
 -- What is read of a statement before it is refused goes on to a statement.
-use Rattle.std.proofs.Common.{◌≡◌, ℕ, zero, suc, Bool, true, false, cond, List, [], ◌∷◌, Option, Some, None, refl, sym, subst}
+use Rattle.std.proofs.Common.{◌≡◌, ℕ, zero, suc, Bool, true, false, cond, List, [], ◌∷◌, Some, None, refl}
 use Rattle.cat_tokens.specs.declared.token.Keyword.TheVariants as k
 use Rattle.cat_tokens.specs.declared.token.Symbol.TheVariants as s
 use Rattle.cat_tokens.specs.Lexemes.{keyword, name, number, symbol}
@@ -8,12 +8,12 @@ use Rattle.cn_base.specs.declared.tree.Stmt.{Stmt}
 use Rattle.cn_base.specs.declared.tree.Stmt.TheVariants as stmt
 use Rattle.cat_syntax.specs.Grammar as g
 use Rattle.cat_syntax.specs.Grammar.{IsExpr, IsBlock, AreStatements, IsElse, IsStatement}
-use Rattle.cat_syntax.specs.Reader.{Lexemes, Reader, ◌>>=◌, ◌>>◌, pure, next_symbol, after, sees_keyword, expect, read_name, read_number, one_where}
+use Rattle.cat_syntax.specs.Reader.{Lexemes, Reader, ◌>>=◌, ◌>>◌, pure, after, sees_keyword, expect, read_name, one_where}
 use Rattle.cat_syntax.specs.Reading.{nested}
-use Rattle.cat_syntax.specs.Statements.{value, set, set_at, assigned_by, assigned, output, posted, else_block, otherwise, branched, looped, repeated, statement_by, statement, goes_on, statements, braces, block}
+use Rattle.cat_syntax.specs.Statements.{value, set, set_at, assigned, output, posted, else_block, otherwise, branched, looped, repeated, statement, goes_on, statements, braces, block}
 use Rattle.cat_syntax.proofs.Readers.{read, sees_keyword_is}
 use Rattle.cat_syntax.proofs.Heads.{after_out, after_post, after_if, after_while, after_repeat}
-use Rattle.cat_syntax.proofs.Viable.{Completes, Viable, Next, Behind, viable_then, regrouped, wider, viable_pure, viable_map, refuses, behind, viable_expect, viable_name, viable_number, viable_close, Step, OneMore, viable_all, viable_where}
+use Rattle.cat_syntax.proofs.Viable.{Completes, Viable, Next, Behind, viable_then, regrouped, wider, viable_pure, viable_map, refuses, behind, viable_expect, viable_name, viable_number, viable_close, some_name, Step, viable_all, viable_where}
 use Rattle.cat_syntax.proofs.ViableExpr.{a_number, nested_viable}
 
 abbrev IsValue : Lexemes → Expr → Lexemes → Type 0
@@ -97,7 +97,7 @@ module _ (room : ℕ) (block : Reader (List Stmt)) (law : Viable IsBlock block) 
   statement_viable (keyword k.If ∷ us) = behind IsStatement (keyword k.If) (keyword k.If ∷ us) us _ refl (branched_viable us)
   statement_viable (keyword k.While ∷ us) = behind IsStatement (keyword k.While) (keyword k.While ∷ us) us _ refl (looped_viable us)
   statement_viable (keyword k.Repeat ∷ us) = behind IsStatement (keyword k.Repeat) (keyword k.Repeat ∷ us) us _ refl (repeated_viable us)
-  statement_viable ts = refuses IsStatement ts (stmt.Post (97 ∷ [])) (λ end. (keyword k.Post ∷ name (97 ∷ []) ∷ symbol s.Semicolon ∷ end, g.post))
+  statement_viable ts = refuses IsStatement ts (stmt.Post some_name) (λ end. (keyword k.Post ∷ name some_name ∷ symbol s.Semicolon ∷ end, g.post))
 
   statements_viable : Viable AreStatements (statements room block)
   unfolding statements
