@@ -20,8 +20,14 @@ def long_task(statement, count):
     return "int x = 0; task t {\n" + (statement + "\n") * count + "} start t;\n"
 
 
+LOOP = "int i = 0; int a[64]; task t { while i < 1000000 { a[i] = a[i - 1] + i; i = i + 1; } } start t;\n"
+OUTPUTS = "int i = 0; task t { while true { out 1, i; i = i + 1; } } start t;\n"
+
 # name: (files, words)
 CASES = {
+    "run-loop-1000000": ({"F": LOOP}, ["run", "F", "1000000"]),
+    "run-outputs-1000000": ({"F": OUTPUTS}, ["run", "F", "1000000"]),
+    "list-60000": ({"F": long_task("x = x + 1 ;     ", 14999)}, ["list", "F"]),
     "run-14900-sums": ({"F": long_task("x=x+1;", 14900)}, ["run", "F", "1000000"]),
     "run-29000-outputs": ({"F": long_task("out 1,x;", 29000)}, ["run", "F", "1000000"]),
     "run-names-1024": (

@@ -7,3 +7,5 @@ pub mod Own
 pub mod ReadMore
 pub mod Running
 mod Refusing
+pub mod Stopping
+pub mod Choosing

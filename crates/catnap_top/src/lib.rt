@@ -1,12 +1,17 @@
 //! The top call: words, inputs and a sink in, a status out.
 #![tactic(auto)]
 
+mod check;
+mod compiled;
+mod fault;
 mod line;
+mod list;
 mod reading;
 mod ready;
 mod refusal;
 mod reply;
 mod run;
+mod selected;
 mod source;
 mod status;
 mod stop;

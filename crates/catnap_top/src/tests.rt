@@ -46,7 +46,7 @@ fn runs_sources(rt: HostRuntime) -> Result<(), Fail> {
         (S1, "1000000", 0, "out 1 1\nsteps 4\n"),
         (least, "9", 0, "out 255 0\nsteps 3\n"),
         (turns, "9", 0, "out 1 2\nsteps 9\n"),
-        (turns, "99", 0, "out 1 2\nout 2 1\nsteps 12\n"),
+        (turns, "99", 0, "out 1 2\nout 2 1\nsteps 13\n"),
         (S1, "00000003", 2, "fault usage\n"),
         (S1, "1000001", 2, "fault usage\n"),
         (S1, "", 2, "fault usage\n"),
@@ -119,5 +119,25 @@ fn runs_in_silence(rt: HostRuntime) -> Result<(), Fail> {
     let status = catnap(rt.alloc(), words.as_slice(), &mut inputs, &mut sink);
     assert_eq!(rt; status.number(), 0);
     assert_eq!(rt; sink.bytes(), b"steps 0\n".as_slice());
+    Ok(())
+}
+
+#[test]
+fn lists_code(rt: HostRuntime) -> Result<(), Fail> {
+    let words = vec![in rt.alloc();
+        String::from_str(rt.alloc(), "list")?,
+        String::from_str(rt.alloc(), "s1")?,
+    ]?;
+    let listing =
+        "task t 0\n0 begin 0\n1 load 0\n2 push 1\n3 add\n4 store 0\n5 load 0\n6 out 1\n7 end\n";
+    for (source, status, text) in [
+        (S1, 0, listing),
+        ("", 0, ""),
+        ("start t;", 5, "fault source Unknown\n"),
+    ] {
+        let got = get(rt.alloc(), words.as_slice(), source.as_bytes(), 200)?;
+        assert_eq!(rt; got.status.number(), status, "{source}");
+        assert_eq!(rt; got.sink.bytes(), text.as_bytes(), "{source}");
+    }
     Ok(())
 }
