@@ -1,3 +1,4 @@
 pub mod Events
 pub mod KeptLemmas
+pub mod Sound
 pub mod Steps
