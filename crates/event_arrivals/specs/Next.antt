@@ -18,3 +18,14 @@ pub record IsNext (lists : Lists) (deadlines : List ℕ) (done : ℕ → ℕ) (n
   pub pending : IsPending lists done now event k arrival
   pub first : (event' k' : ℕ) (other : Arrival) → IsPending lists done now event' k' other
       → ComesFirst (arrival.tick + slice_index deadlines event) event k (other.tick + slice_index deadlines event') event' k'
+
+-- an event's arrival that is not done, and comes after a tick
+pub record IsToCome (lists : Lists) (done : ℕ → ℕ) (now event k : ℕ) (arrival : Arrival) : Type 0 where
+  pub to_do : done event ≤ k
+  pub is_it : arrival_at lists event k ≡ Some arrival
+  pub later : now < arrival.tick
+
+-- the least tick after `now` at which an arrival comes that is not done
+pub record IsNextTick (lists : Lists) (done : ℕ → ℕ) (now tick : ℕ) : Type 0 where
+  pub comes : (event k : ℕ) × (arrival : Arrival) × IsToCome lists done now event k arrival × (arrival.tick ≡ tick)
+  pub first : (event k : ℕ) (arrival : Arrival) → IsToCome lists done now event k arrival → tick ≤ arrival.tick
