@@ -1,6 +1,6 @@
 //! The tick of the arrival that comes after a tick.
 
-ghost use Rattle.std.specs.Prelude.{◌≡◌, ◌<◌, ◌+◌, ℕ, length, slice_index, IfSome, IfNone, IsTrue, ◌↔◌};
+ghost use Rattle.std.specs.Prelude.{◌≡◌, ◌<◌, ◌+◌, ℕ, length, slice_index, IfSome, IfNone};
 ghost use Rattle.event_arrivals.specs.Next.{IsNextTick, IsToCome};
 ghost use Rattle.event_arrivals.specs.declared.arrival.Arrival.{Arrival};
 ghost use Rattle.event_queue.specs.Queue.{has_come_by, IsFirstTick, IsTickOf};
@@ -36,8 +36,10 @@ impl Queue {
                 high = middle;
             }
         }
-        let arrival = self.arrivals.arrival(event, low)?;
-        Some(arrival.tick)
+        match self.arrivals.arrival(event, low) {
+            None => None,
+            Some(arrival) => Some(arrival.tick),
+        }
     }
 
     // The least such tick of the events up to this one, where `best` is that of the events before it.
@@ -52,7 +54,13 @@ impl Queue {
         };
         match best {
             None => Some(tick),
-            Some(best) => Some(best.min(tick)),
+            Some(best) => {
+                if tick < best {
+                    Some(tick)
+                } else {
+                    Some(best)
+                }
+            }
         }
     }
 
