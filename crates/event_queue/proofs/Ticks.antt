@@ -11,8 +11,9 @@ use Rattle.event_arrivals.specs.Kept.{spacing_at}
 use Rattle.event_arrivals.specs.Next.{IsNextTick, IsToCome}
 use Rattle.event_arrivals.specs.Spaced.{AreSound, AreSpaced}
 use Rattle.event_arrivals.specs.declared.arrival.Arrival.{Arrival}
+use Rattle.event_arrivals.proofs.Orders.{earlier, known, not_before}
 use Rattle.event_queue.specs.Queue.{IsFirstTick, IsTickBelow, IsTickOf, has_come_by, is_by}
-use Rattle.event_queue.proofs.Heads.{earlier, known, none_from, not_before}
+
 
 -- no arrival has a tick below its index
 tick_from : (lists : Lists) → AreSound lists → (event k : ℕ) (arrival : Arrival) → arrival_at lists event k ≡ Some arrival → k ≤ arrival.tick

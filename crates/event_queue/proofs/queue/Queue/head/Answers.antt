@@ -3,7 +3,7 @@ use Rattle.std.proofs.lemmas.Int.{to_z-of_z}
 use Rattle.event_arrivals.specs.Arrivals.{arrival_at}
 use Rattle.event_queue.specs.Queue.{IsHead, IsHeadOf, QueueValue}
 use Rattle.event_queue.specs.declared.queue.Due.{Due}
-use Rattle.event_queue.proofs.Heads.{late_from, none_from, not_before}
+use Rattle.event_arrivals.proofs.Orders.{late_from, none_from, not_before}
 use Rattle.event_queue.proofs.queue.Queue.head.Goals as goal
 
 pub returns-in_default : goal.returns-in_default
