@@ -1,2 +1,3 @@
 pub mod Advancing
+pub mod Going
 pub mod Nexts
