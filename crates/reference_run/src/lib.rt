@@ -8,6 +8,8 @@ mod next;
 mod run;
 mod schedule;
 mod steps;
+#[cfg(test)]
+mod tests;
 mod whole;
 
 pub use schedule::{Item, Schedule};
