@@ -15,7 +15,7 @@ use Rattle.reference_run.specs.declared.schedule.Item.{Item}
 use Rattle.reference_run.specs.Held.{HasAdvanced, HasHandled, IsAt, IsFirst, moment_of}
 use Rattle.reference_run.specs.Reference.{AreFor, IsBroken, IsRun, Leads, MayHandle, Moment, Setting, advance_to, done_in, last_start}
 
-earlier_more : (items : List Item) (i : ℕ) (item : Item) → slice_get items i ≡ Some item → reverse (take (i + 1) items) ≡ item ∷ reverse (take i items)
+pub earlier_more : (items : List Item) (i : ℕ) (item : Item) → slice_get items i ≡ Some item → reverse (take (i + 1) items) ≡ item ∷ reverse (take i items)
 earlier_more items i item there =
     ap reverse (take_more items i item (slice_get_within items i item there)) ∙ reverse-append (take i items) (get_or items i item ∷ [])
     ∙ ap (λ x. x ∷ reverse (take i items)) (get_or_from_slice_get items i item item there)
