@@ -2,10 +2,10 @@
 #![tactic(auto)]
 
 #[cfg(test)]
-mod rows;
-#[cfg(test)]
 mod fixtures;
 #[cfg(test)]
 mod queue;
+#[cfg(test)]
+mod rows;
 #[cfg(test)]
 mod runs;

@@ -34,11 +34,7 @@ fn least_deadline_tick_is_first(rt: HostRuntime) -> Result<(), Fail> {
     let program = program_of(alloc, source)?;
     let ticks = b"ticks,harvest,extra,sample\n300,0,0,0\n";
     let rows = b"tick,event,payload\n0,a,1\n5,b,2\n100,a,3\n";
-    let queue = queue_of(
-        alloc,
-        &program,
-        arrivals_of(alloc, &program, ticks, rows)?,
-    )?;
+    let queue = queue_of(alloc, &program, arrivals_of(alloc, &program, ticks, rows)?)?;
     let table = [
         (4, [0, 0], due(0, 0, 0, 90, 1), Some(5)),
         (5, [0, 0], due(1, 0, 5, 15, 2), Some(100)),
@@ -69,7 +65,11 @@ fn periodic_events_bring_samples(rt: HostRuntime) -> Result<(), Fail> {
         (4_294_967_295, [0, 0], due(0, 0, 0, 100, 40), None),
     ];
     for (now, done, first, next) in table {
-        assert_eq!(rt; asked(alloc, &queue, now, &done)?, (first, next), "at {now}");
+        assert_eq!(rt;
+            asked(alloc, &queue, now, &done)?,
+            (first, next),
+            "at {now}"
+        );
     }
     Ok(())
 }

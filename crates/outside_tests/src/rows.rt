@@ -25,7 +25,10 @@ fn rows_too_soon_are_dropped(rt: HostRuntime) -> Result<(), Fail> {
     assert!(rt; read.events() == 1);
     if read.events() == 1 {
         for (k, tick) in [Some(0), Some(100), Some(200), None].iter().enumerate() {
-            assert_eq!(rt; read.arrival(0, k as u32).map(|arrival| arrival.tick), *tick);
+            assert_eq!(rt;
+                read.arrival(0, k as u32).map(|arrival| arrival.tick),
+                *tick
+            );
         }
     }
     Ok(())

@@ -83,7 +83,7 @@ counted : (earlier : List Item) (item : Item) (done : List ℕ) → item.event <
 counted earlier item done within counts event = elim (equal_or_not item.event event) [
   | inl same ↦ (let here = get_or-set_same done item.event (slice_index done item.event + 1) 0 within in
       subst (λ e. slice_index (set done item.event (slice_index done item.event + 1)) e ≡ done_in (item ∷ earlier) e) same
-        (here ∙ ap (λ n. n + 1) (counts item.event) ∙ sym (count_same earlier item item.event refl)))
+      (here ∙ ap (λ n. n + 1) (counts item.event) ∙ sym (count_same earlier item item.event refl)))
   | inr other ↦ (let ne : event ≢ item.event = λ e. other (sym e) in
       get_or-set_other done item.event event (slice_index done item.event + 1) 0 ne ∙ counts event ∙ sym (count_other earlier item event other))
 ]

@@ -59,7 +59,7 @@ not_through s items i n m broken more run =
 through_all : (s : Setting) (items : List Item) (i : ℕ) (m : Moment) → IsBroken s items i → IsRun s (reverse items) m → ⊥
 through_all s items i m broken run =
     not_through s items i (length items) m broken (slice_get_within items i broken.item broken.there)
-      (subst (λ xs. IsRun s (reverse xs) m) (sym (take_all (length items) items (omega arith))) run)
+    (subst (λ xs. IsRun s (reverse xs) m) (sym (take_all (length items) items (omega arith))) run)
 
 pub one_end : (s : Setting) (schedule : Schedule) (a b : Moment) → IsReference s schedule a → IsReference s schedule b → a ≡ b
 one_end s schedule a b ra rb =
@@ -70,9 +70,9 @@ pub one_fault : (s : Setting) (schedule : Schedule) (i j : ℕ) → HasFault s s
 one_fault s schedule i j (inl broken) (inl other) = elim (cases_lt i j) [
   | inl less ↦ absurd (not_through s schedule.items i j other.before broken less other.run)
   | inr more ↦ elim (cases_lt j i) [
-      | inl less ↦ absurd (not_through s schedule.items j i broken.before other less broken.run)
-      | inr same ↦ omega (arith, more, same)
-    ]
+    | inl less ↦ absurd (not_through s schedule.items j i broken.before other less broken.run)
+    | inr same ↦ omega (arith, more, same)
+  ]
 ]
 one_fault s schedule i j (inl broken) (inr short) = absurd (through_all s schedule.items i short.before broken short.run)
 one_fault s schedule i j (inr short) (inl broken) = absurd (through_all s schedule.items j short.before broken short.run)

@@ -7,5 +7,4 @@ pub fn one_reference()
     ensures end { (s : Setting) (schedule : Schedule) (a b : Moment) → IsReference s schedule a → IsReference s schedule b → a ≡ b }
     ensures fault { (s : Setting) (schedule : Schedule) (i j : ℕ) → HasFault s schedule i → HasFault s schedule j → i ≡ j }
     ensures either { (s : Setting) (schedule : Schedule) (end : Moment) (i : ℕ) → IsReference s schedule end → HasFault s schedule i → ⊥ }
-{
-}
+{}
