@@ -8,3 +8,4 @@ pub mod ReadMore
 pub mod Running
 mod Refusing
 pub mod Stopping
+pub mod Choosing

@@ -1,7 +1,9 @@
 //! The top call: words, inputs and a sink in, a status out.
 #![tactic(auto)]
 
+mod check;
 mod compiled;
+mod fault;
 mod line;
 mod list;
 mod reading;
@@ -9,6 +11,7 @@ mod ready;
 mod refusal;
 mod reply;
 mod run;
+mod selected;
 mod source;
 mod status;
 mod stop;

@@ -1,11 +1,11 @@
-use crate::refusal::SourceFault;
+use crate::fault::Fault;
 use cn_base::NoMemory;
 
-/// Why a source gives no program.
+/// Why a command's work ends early.
 #[derive(Clone, Copy, Debug, PartialEq, Eq)]
 pub enum Stop {
     NoMemory,
-    Refused(SourceFault),
+    Refused(Fault),
 }
 
 impl From<NoMemory> for Stop {

@@ -11,6 +11,8 @@ pub enum Form {
     Run { steps: u32 },
     /// `list SRC`
     List,
+    /// `check SRC DEVICE`
+    Check,
 }
 
 impl Form {
@@ -20,6 +22,7 @@ impl Form {
     {
         match self {
             Form::Run { .. } | Form::List => 1,
+            Form::Check => 2,
         }
     }
 }
@@ -59,6 +62,7 @@ pub fn form_in(words: &[String]) -> Option<Form>
             let steps = number(steps.as_str(), 7, MOST_STEPS)?;
             Some(Form::Run { steps })
         }
+        [command, _, _] if command.as_str() == "check" => Some(Form::Check),
         [command, _] if command.as_str() == "list" => Some(Form::List),
         _ => None,
     }
