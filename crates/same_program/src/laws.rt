@@ -1,0 +1,27 @@
+ghost use Rattle.std.specs.Prelude.{◌≡◌, ℕ, ℤ};
+ghost use Rattle.cn_base.specs.declared.tree.Tree.{Tree};
+ghost use Rattle.cat_program.specs.Checked.{Checked, body_at, first_state, version_at};
+ghost use Rattle.cat_program.specs.Meaning.{Store, TaskState, handled, task_step_of};
+ghost use Rattle.cat_resolve.specs.Program.{IsProgramOf};
+ghost use Rattle.cat_machine.specs.Code.{code_of};
+ghost use Rattle.cat_compile.specs.Listing.{listing_text};
+ghost use Rattle.same_program.specs.Same.{IsSame};
+ghost use Rattle.same_program.specs.Alike.{StateIsLike, StepIsLike};
+
+/// All programs of a source say the same.
+pub fn same_program_law()
+    ensures { (a b : Tree) (p q : Checked) → a.items ≡ b.items → IsProgramOf a p → IsProgramOf b q → IsSame p q }
+{}
+
+/// Programs that say the same do the same: step by step in their tasks, and in each version of an event.
+pub fn same_steps_law()
+    ensures first { (p q : Checked) → IsSame p q → StateIsLike (first_state p) (first_state q) }
+    ensures step { (p q : Checked) (s t : TaskState) → IsSame p q → StateIsLike s t → StepIsLike (task_step_of (body_at p) s) (task_step_of (body_at q) t) }
+    ensures handled { (p q : Checked) (event version : ℕ) (payload : ℤ) (s : Store) → IsSame p q → handled (version_at p event version) payload s ≡ handled (version_at q event version) payload s }
+{}
+
+/// Programs that say the same have the same code, and it is listed the same.
+pub fn same_code_law()
+    ensures code { (p q : Checked) → IsSame p q → code_of p ≡ code_of q }
+    ensures listing { (p q : Checked) → IsSame p q → listing_text p (code_of p) ≡ listing_text q (code_of q) }
+{}
