@@ -3,3 +3,6 @@ pub mod Bodies
 pub mod Steps
 pub mod Codes
 pub mod Programs
+pub mod Bounds
+pub mod Verdicts
+pub mod Choices

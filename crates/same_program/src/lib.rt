@@ -4,4 +4,4 @@
 
 mod laws;
 
-pub use laws::{same_code_law, same_program_law, same_steps_law};
+pub use laws::{one_bounds_law, one_choice_law, same_code_law, same_program_law, same_steps_law};
