@@ -12,8 +12,6 @@ use Rattle.catnap_top.specs.Run.{RunCallsFor, refuses, runs}
 use Rattle.catnap_top.specs.Listed.{ListCallsFor, lists}
 use Rattle.catnap_top.specs.Listed as list
 use Rattle.nv_memory.specs.declared.device.Device.{Device}
-use Rattle.feasibility.specs.declared.choose.ChooseFault.{ChooseFault}
-use Rattle.degradation.specs.declared.chosen.Chosen.{Chosen}
 use Rattle.catnap_top.specs.Check.{IsDeviceOf, IsBadDevice, IsUnserved, IsCheckFault, IsChosenFor, CheckCallsFor, chooses}
 use Rattle.catnap_top.specs.Check as check
 use Rattle.catnap_top.specs.declared.fault.ProfileFault.{ProfileFault}

@@ -14,7 +14,6 @@ use Rattle.cat_program.specs.Checked.{Checked}
 use Rattle.cat_resolve.specs.Program.{IsProgramOf}
 use Rattle.catnap_top.specs.declared.refusal.SourceFault.{SourceFault}
 use Rattle.catnap_top.specs.declared.refusal.SourceFault.TheVariants.{TooLong}
-use Rattle.catnap_top.specs.declared.fault.Fault.{Fault}
 use Rattle.catnap_top.specs.declared.fault.Fault.TheVariants.{Source}
 use Rattle.catnap_top.specs.declared.stop.Stop.{Stop}
 use Rattle.catnap_top.specs.declared.stop.Stop.TheVariants.{NoMemory, Refused}
