@@ -1,5 +1,5 @@
 -- Texts one after the other.
-use Rattle.std.proofs.Common.{◌≡◌, ℕ, zero, suc, ◌+◌, ◌<◌, List, [], ◌∷◌, ◌++◌, length, Option, Some, Result, Ok, Err, refl, sym, ap, ◌∙◌, ◌-◌, arith, append_assoc, append-nil, add-one}
+use Rattle.std.proofs.Common.{◌≡◌, ℕ, zero, suc, ◌+◌, ◌<◌, List, [], ◌++◌, Option, Some, Result, Ok, Err, refl, sym, ap, ◌∙◌, ◌-◌, arith, append_assoc, append-nil}
 use Rattle.std.specs.Io.KnownBytes.{append_known}
 use Rattle.cn_base.specs.Writing.{IsCut, Writes}
 use Rattle.cn_base.specs.Sums.{cut_amid, cut_behind, known_on}

@@ -30,7 +30,7 @@ version_line name version load =
 abbrev pub numbers_line : Numbers → List ℕ
 numbers_line n =
     line (codes "numbers" ∷ codes "lines" ∷ decimal n.lines ∷ codes "checkpoint" ∷ decimal n.checkpoint ∷ codes "section" ∷ decimal n.section
-      ∷ codes "reserve" ∷ decimal n.reserve ∷ codes "level" ∷ decimal n.level ∷ codes "window" ∷ decimal n.window ∷ [])
+    ∷ codes "reserve" ∷ decimal n.reserve ∷ codes "level" ∷ decimal n.level ∷ codes "window" ∷ decimal n.window ∷ [])
 
 abbrev pub name_of : Option Event → List ℕ
 name_of None = []

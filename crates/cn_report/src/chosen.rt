@@ -13,12 +13,7 @@ use demand_core::{Load, Numbers};
 use itoa::Buffer;
 
 /// The line of an event in its version.
-fn put_version<K: Sink>(
-    sink: &mut K,
-    name: &str,
-    version: u8,
-    load: Load,
-) -> Result<(), WriteFail>
+fn put_version<K: Sink>(sink: &mut K, name: &str, version: u8, load: Load) -> Result<(), WriteFail>
     ensures text { Writes (K.written sink.old) (K.written sink.new) (version_line name.now version load) result }
     ensures cause { HasCause (K.faults sink.old) (K.faults sink.new) result }
 {

@@ -3,6 +3,8 @@
 
 mod chosen;
 mod fault;
+#[cfg(test)]
+mod tests;
 
 pub use chosen::write_chosen;
 pub use fault::{write_rejected, write_window_fault};

@@ -1,5 +1,5 @@
 -- A program's tables are those of which versions can be chosen.
-use Rattle.std.proofs.Common.{◌≡◌, ℕ, zero, suc, ◌+◌, ◌*◌, ◌<◌, ◌≤◌, List, [], ◌∷◌, ◌++◌, length, Some, take, drop, inl, inr, false, refl, sym, ap, ◌∙◌, length-append, get_or, subst, arith}
+use Rattle.std.proofs.Common.{◌≡◌, ℕ, zero, suc, ◌+◌, ◌*◌, ◌<◌, ◌≤◌, List, [], ◌∷◌, ◌++◌, length, Some, take, drop, inl, inr, refl, sym, ap, ◌∙◌, length-append, arith}
 use Rattle.std.specs.Prelude.{◌==◌, cond, map, slice_get, slice_index, slice_index_or, unwrap_or}
 use Rattle.std.proofs.lemmas.Bool.{cases_lt, cond-true, cond-false, ne_eqb}
 use Rattle.std.proofs.Math.ListN.{get_or-append}
@@ -58,8 +58,8 @@ unfolding counted
 counted_more zero m ms lt = absurd (omega arith)
 counted_more (suc n) m ms lt =
     elim (eqb_tells m n) [
-      inl same ↦ omega (arith, mentioned_here m n ms same.1, counted_below n m ms (omega arith))
-    | inr other ↦ omega (arith, mentioned_elsewhere m n ms other.1, counted_more n m ms (omega (arith, other.1)))
+      | inl same ↦ omega (arith, mentioned_here m n ms same.1, counted_below n m ms (omega arith))
+      | inr other ↦ omega (arith, mentioned_elsewhere m n ms other.1, counted_more n m ms (omega (arith, other.1)))
     ]
 
 counted_all : (n : ℕ) (ms : List ℕ) → EachBelow n ms → counted n ms ≡ length ms
@@ -187,13 +187,13 @@ version_at front zero e lt = absurd (omega arith)
 version_at front (suc n) e lt =
     let long = versions_length front n in
     elim (cases_lt e n) [
-      inl sooner ↦ get_or-append (versions_of front n) (version_of front n ∷ []) 0 e (omega arith) ∙ version_at front n e sooner
-    | inr last ↦
-        let here : e ≡ length (versions_of front n) = omega arith in
-        let same : n ≡ e = omega arith in
-        ap (λ i. slice_index (versions_of front n ++ version_of front n ∷ []) i) here
-        ∙ get_or-append_seam (versions_of front n) (version_of front n) [] 0
-        ∙ ap (version_of front) same
+      | inl sooner ↦ get_or-append (versions_of front n) (version_of front n ∷ []) 0 e (omega arith) ∙ version_at front n e sooner
+      | inr last ↦
+          let here : e ≡ length (versions_of front n) = omega arith in
+          let same : n ≡ e = omega arith in
+          ap (λ i. slice_index (versions_of front n ++ version_of front n ∷ []) i) here
+          ∙ get_or-append_seam (versions_of front n) (version_of front n) [] 0
+          ∙ ap (version_of front) same
     ]
 
 degraded : (ms : List ℕ) (k : ℕ) (es : List (List ℕ)) (e n : ℕ) → n ≡ k + e → EachDegrades ms k es → e < length es → version_of ms n < length (unwrap_or (slice_get es e) [])

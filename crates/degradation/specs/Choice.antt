@@ -1,5 +1,5 @@
 -- Which versions a program's events run in on a device, and the numbers of that choice.
-use Rattle.std.specs.Prelude.{◌≡◌, ℕ, ◌+◌, ◌<◌, List, [], ◌∷◌, length, map, max, slice_get, slice_index, unwrap_or}
+use Rattle.std.specs.Prelude.{◌≡◌, ℕ, ◌+◌, ◌<◌, List, [], ◌∷◌, length, map, max, slice_index}
 use Rattle.cat_program.specs.declared.headers.Event.{Event}
 use Rattle.cat_program.specs.Declares.{spacing_of}
 use Rattle.cat_program.specs.Checked.{Checked, HasVersion}

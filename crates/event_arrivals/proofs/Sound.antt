@@ -42,16 +42,16 @@ kept_follow timings event earlier (row ∷ rows) =
     let rest = kept_follow timings event (row ∷ earlier) rows in
     elim (is_kept timings earlier row) as (λ b. is_kept timings earlier row ≡ b → Follow (spacing_at timings event) (last_kept timings event earlier) (own_rows event (if b then row ∷ kept_rows timings (row ∷ earlier) rows else kept_rows timings (row ∷ earlier) rows))) [
       | true ↦ (λ holds. elim (equal_or_not row.event event) [
-          | inl same ↦ (let taken : last_kept timings event (row ∷ earlier) ≡ Some row.tick = subst (λ e. last_kept timings e (row ∷ earlier) ≡ Some row.tick) same (last_kept-taken timings earlier row holds) in
-              let apart : is_apart (spacing_at timings event) (last_kept timings event earlier) row.tick ≡ true = subst (λ e. is_apart (spacing_at timings e) (last_kept timings e earlier) row.tick ≡ true) same holds in
-              let here : nat_eq row.event event ≡ true = subst (λ e. nat_eq row.event e ≡ true) same (nat_eq-same row.event) in
-              rw here (apart, subst ends taken rest))
-          | inr other ↦ (rw (nat_eq-other row.event event other) (subst ends (last_kept-other timings earlier row event other) rest))
-        ])
+        | inl same ↦ (let taken : last_kept timings event (row ∷ earlier) ≡ Some row.tick = subst (λ e. last_kept timings e (row ∷ earlier) ≡ Some row.tick) same (last_kept-taken timings earlier row holds) in
+            let apart : is_apart (spacing_at timings event) (last_kept timings event earlier) row.tick ≡ true = subst (λ e. is_apart (spacing_at timings e) (last_kept timings e earlier) row.tick ≡ true) same holds in
+            let here : nat_eq row.event event ≡ true = subst (λ e. nat_eq row.event e ≡ true) same (nat_eq-same row.event) in
+            rw here (apart, subst ends taken rest))
+        | inr other ↦ (rw (nat_eq-other row.event event other) (subst ends (last_kept-other timings earlier row event other) rest))
+      ])
       | false ↦ (λ fails. elim (equal_or_not row.event event) [
-          | inl same ↦ subst ends (subst (λ e. last_kept timings e (row ∷ earlier) ≡ last_kept timings e earlier) same (last_kept-passed timings earlier row fails)) rest
-          | inr other ↦ subst ends (last_kept-other timings earlier row event other) rest
-        ])
+        | inl same ↦ subst ends (subst (λ e. last_kept timings e (row ∷ earlier) ≡ last_kept timings e earlier) same (last_kept-passed timings earlier row fails)) rest
+        | inr other ↦ subst ends (last_kept-other timings earlier row event other) rest
+      ])
     ] refl
 
 after_last : (least last n : ℕ) (xs : List Arrival) (later : Arrival) → Follow least (Some last) xs → slice_get xs n ≡ Some later → last + (n + 1) * least ≤ later.tick

@@ -81,6 +81,7 @@ module _ (q : QueueValue) (done : ℕ → ℕ) (now event : ℕ) where
       | inr same ↦ head_first due head e k other same pending
     ];
   }
+
   -- the deadline of the one before is no later
   pub keep_sooner : (due best : Due) → IsHead q now event (done event) due → IsDueBelow q done now event best → best.deadline ≤ due.deadline → IsDueBelow q done now (event + 1) best
   keep_sooner due best head before sooner = record {
@@ -107,9 +108,9 @@ all_next q done now bound (Some due) all below = record {
   next = record {
     pending = below.pending;
     first = λ e k other pending.
-      let inside = known q.arrivals e k other pending.is_it in
-      let first = below.first e k other (omega (arith, inside, all)) pending in
-      subst (λ tick. ComesFirst tick due.event due.index (other.tick + slice_index q.deadlines e) e k) below.deadline first;
+        let inside = known q.arrivals e k other pending.is_it in
+        let first = below.first e k other (omega (arith, inside, all)) pending in
+        subst (λ tick. ComesFirst tick due.event due.index (other.tick + slice_index q.deadlines e) e k) below.deadline first;
   };
   deadline = below.deadline;
 }

@@ -14,7 +14,6 @@ use Rattle.event_arrivals.specs.declared.arrival.Arrival.{Arrival}
 use Rattle.event_arrivals.proofs.Orders.{earlier, known, not_before}
 use Rattle.event_queue.specs.Queue.{IsFirstTick, IsTickBelow, IsTickOf, has_come_by, is_by}
 
-
 -- no arrival has a tick below its index
 tick_from : (lists : Lists) → AreSound lists → (event k : ℕ) (arrival : Arrival) → arrival_at lists event k ≡ Some arrival → k ≤ arrival.tick
 tick_from lists sound event k arrival is =
@@ -64,11 +63,13 @@ tick_none lists spaced now event from low come none = λ k arrival order is. eli
 ]
 
 pub tick_some : (lists : Lists) → AreSpaced lists → (now event from low : ℕ) (arrival : Arrival) → from ≤ low → Come lists now event from low → arrival_at lists event low ≡ Some arrival → now < arrival.tick → IsTickOf lists now event from (Some arrival.tick)
-tick_some lists spaced now event from low arrival order come is later =
-    ((low, arrival, order, is, refl, later), λ k other after there late. elim (cases_lt k low) [
-      | inl below ↦ (let early = come k other after below there in absurd (let never : ⊥ = omega (arith, early, late) in never))
-      | inr above ↦ not_before lists spaced event low k arrival other above is there
-    ])
+tick_some lists spaced now event from low arrival order come is later = (
+  (low, arrival, order, is, refl, later),
+  λ k other after there late. elim (cases_lt k low) [
+    | inl below ↦ (let early = come k other after below there in absurd (let never : ⊥ = omega (arith, early, late) in never))
+    | inr above ↦ not_before lists spaced event low k arrival other above is there
+  ],
+)
 
 -- ---- of all events
 

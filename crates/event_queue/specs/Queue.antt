@@ -63,8 +63,8 @@ has_come_by lists now event index = is_by now (arrival_at lists event index)
 abbrev pub IsTickOf : Lists → ℕ → ℕ → ℕ → Option ℕ → Type 0
 IsTickOf lists now event from best =
     MatchOption best ((k : ℕ) (arrival : Arrival) → from ≤ k → arrival_at lists event k ≡ Some arrival → arrival.tick ≤ now)
-      (λ tick. ((k : ℕ) × (arrival : Arrival) × (from ≤ k) × (arrival_at lists event k ≡ Some arrival) × (arrival.tick ≡ tick) × (now < tick))
-      × ((k : ℕ) (arrival : Arrival) → from ≤ k → arrival_at lists event k ≡ Some arrival → now < arrival.tick → tick ≤ arrival.tick))
+    (λ tick. ((k : ℕ) × (arrival : Arrival) × (from ≤ k) × (arrival_at lists event k ≡ Some arrival) × (arrival.tick ≡ tick) × (now < tick))
+    × ((k : ℕ) (arrival : Arrival) → from ≤ k → arrival_at lists event k ≡ Some arrival → now < arrival.tick → tick ≤ arrival.tick))
 
 -- the same of the events below a number
 pub record IsTickBelow (lists : Lists) (done : ℕ → ℕ) (now bound tick : ℕ) : Type 0 where

@@ -54,13 +54,7 @@ impl Queue {
         };
         match best {
             None => Some(tick),
-            Some(best) => {
-                if tick < best {
-                    Some(tick)
-                } else {
-                    Some(best)
-                }
-            }
+            Some(best) => { if tick < best { Some(tick) } else { Some(best) } }
         }
     }
 

@@ -15,7 +15,7 @@ use Rattle.reference_run.specs.declared.schedule.Item.{Item}
 use Rattle.reference_run.specs.Held.{HasAdvanced, HasHandled, IsAt, IsFirst, moment_of}
 use Rattle.reference_run.specs.Reference.{AreFor, IsBroken, IsRun, Leads, MayHandle, Moment, Setting, advance_to, done_in, last_start}
 
-earlier_more : (items : List Item) (i : ℕ) (item : Item) → slice_get items i ≡ Some item → reverse (take (i + 1) items) ≡ item ∷ reverse (take i items)
+pub earlier_more : (items : List Item) (i : ℕ) (item : Item) → slice_get items i ≡ Some item → reverse (take (i + 1) items) ≡ item ∷ reverse (take i items)
 earlier_more items i item there =
     ap reverse (take_more items i item (slice_get_within items i item there)) ∙ reverse-append (take i items) (get_or items i item ∷ [])
     ∙ ap (λ x. x ∷ reverse (take i items)) (get_or_from_slice_get items i item item there)
@@ -83,7 +83,7 @@ counted : (earlier : List Item) (item : Item) (done : List ℕ) → item.event <
 counted earlier item done within counts event = elim (equal_or_not item.event event) [
   | inl same ↦ (let here = get_or-set_same done item.event (slice_index done item.event + 1) 0 within in
       subst (λ e. slice_index (set done item.event (slice_index done item.event + 1)) e ≡ done_in (item ∷ earlier) e) same
-        (here ∙ ap (λ n. n + 1) (counts item.event) ∙ sym (count_same earlier item item.event refl)))
+      (here ∙ ap (λ n. n + 1) (counts item.event) ∙ sym (count_same earlier item item.event refl)))
   | inr other ↦ (let ne : event ≢ item.event = λ e. other (sym e) in
       get_or-set_other done item.event event (slice_index done item.event + 1) 0 ne ∙ counts event ∙ sym (count_other earlier item event other))
 ]

@@ -138,6 +138,10 @@ pub record IsShort (s : Setting) (schedule : Schedule) (i : ℕ) : Type 0 where
   pub run : IsRun s (reverse schedule.items) before
   pub stuck : advance_to (body_at s.program) schedule.total before ≡ None
 
+-- the first item that breaks the schedule, or the number of items where only the total does
+abbrev pub HasFault : Setting → Schedule → ℕ → Type 0
+HasFault s schedule i = IsBroken s schedule.items i ⊎ IsShort s schedule i
+
 abbrev pub IsFault : Setting → Schedule → RefFault → Type 0
-IsFault s schedule (fault.BadSchedule i) = IsBroken s schedule.items i ⊎ IsShort s schedule i
+IsFault s schedule (fault.BadSchedule i) = HasFault s schedule i
 IsFault s schedule fault.NoMemory = ⊤

@@ -20,10 +20,8 @@ pub(crate) fn allowed(
 ) -> Option<Arrival>
     requires belong { AreFor (setting_of program.now versions.now arrivals.now) }
     requires counts { length run.now.done.items ≡ length program.now.events }
-    ensures {
-        let may = MayHandle (setting_of program.now versions.now arrivals.now) run.now.start (slice_index run.now.done.items) item.now in
-        MatchOption result ((arrival : Arrival) → ¬ (may arrival)) may
-    }
+    ensures { let may = MayHandle (setting_of program.now versions.now arrivals.now) run.now.start (slice_index run.now.done.items) item.now in
+        MatchOption result ((arrival : Arrival) → ¬ (may arrival)) may }
 {
     if item.start < run.start || item.event >= program.events() {
         return None;

@@ -4,13 +4,13 @@
 
 mod allowed;
 mod handling;
+mod laws;
 mod next;
 mod run;
 mod schedule;
 mod steps;
-#[cfg(test)]
-mod tests;
 mod whole;
 
+pub use laws::one_reference;
 pub use schedule::{Item, Schedule};
 pub use whole::{RefEnd, RefFault, reference};

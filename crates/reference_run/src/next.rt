@@ -56,11 +56,9 @@ pub(crate) fn next_at(
     requires event { event < length program.now.events }
     requires each { length arrivals.now.timings ≡ length program.now.events }
     requires counts { length done.now ≡ length program.now.events }
-    ensures {
-        MatchOption result
-            ((arrival : Arrival) → ¬ (IsNext arrivals.now (deadlines_of program.now) (slice_index done.now) now event (slice_index done.now event) arrival))
-            (IsNext arrivals.now (deadlines_of program.now) (slice_index done.now) now event (slice_index done.now event))
-    }
+    ensures { MatchOption result
+        ((arrival : Arrival) → ¬ (IsNext arrivals.now (deadlines_of program.now) (slice_index done.now) now event (slice_index done.now event) arrival))
+        (IsNext arrivals.now (deadlines_of program.now) (slice_index done.now) now event (slice_index done.now event)) }
 {
     arrivals.are_sound();
     let Some(arrival) = arrivals.arrival(event, done[event as usize]) else {
@@ -71,7 +69,15 @@ pub(crate) fn next_at(
     }
     let due = u64::from(arrival.tick) + u64::from(deadline(program, event));
     'others: for other in 0..program.events() {
-        if is_sooner(program, arrivals, now, other, done[other as usize], due, event) {
+        if is_sooner(
+            program,
+            arrivals,
+            now,
+            other,
+            done[other as usize],
+            due,
+            event,
+        ) {
             return None;
         }
     }

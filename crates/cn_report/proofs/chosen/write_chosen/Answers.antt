@@ -1,4 +1,3 @@
-use Rattle.std.proofs.Common.{rules}
 use Rattle.cn_report.proofs.Lines.{writes_behind}
 use Rattle.cn_report.proofs.chosen.write_chosen.Goals as goal
 

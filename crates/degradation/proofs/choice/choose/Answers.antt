@@ -1,6 +1,5 @@
-use Rattle.std.proofs.Common.{rules, ◌≡◌, ◌∙◌, sym, subst, refl}
-use Rattle.feasibility.specs.Chosen.{IsChosen, AreTables}
-use Rattle.degradation.specs.Choice.{base_of, tables_of, IsChoice}
+use Rattle.std.proofs.Common.{rules, ◌≡◌, ◌∙◌}
+use Rattle.degradation.specs.Choice.{tables_of}
 use Rattle.degradation.proofs.Degrades.{are_tables, suits}
 use Rattle.degradation.proofs.choice.choose.Goals as goal
 

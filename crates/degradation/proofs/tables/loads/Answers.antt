@@ -1,4 +1,4 @@
-use Rattle.std.proofs.Common.{◌≡◌, ◌++◌, ◌∷◌, [], ◌<◌, length, map, take, get_or, arith}
+use Rattle.std.proofs.Common.{◌≡◌, ◌<◌, length, get_or}
 use Rattle.std.proofs.lemmas.List.{map_more}
 use Rattle.std.proofs.lemmas.Option.{get_or_from_slice_get, slice_get_within}
 use Rattle.cost_bounds.specs.BoundsValue.{versions_in}

@@ -1,4 +1,4 @@
-use Rattle.std.proofs.Common.{◌≡◌, length, refl, sym, ◌∙◌, arith}
+use Rattle.std.proofs.Common.{◌∙◌, arith}
 use Rattle.std.proofs.lemmas.List.{take_all}
 use Rattle.degradation.specs.Choice.{tables_of}
 use Rattle.degradation.proofs.Degrades.{header_at, jobs_count, tables_more, tables_count}

@@ -36,4 +36,4 @@ returns-clause-went c = λ _.
     let s = setting_of c.args.program.now c.args.versions.now c.args.arrivals.now in
     let d : Item = record { steps = 0; event = 0; version = 0; start = 0 } in
     taken s c.args.items.now c.args.i c.args.run.now c.advance.new.run c.handle.new.run (get_or c.args.items.now c.args.i d) c.in-Some.arrival c.requires.belong c.requires.at
-      (slice_get-get_or c.args.items.now c.args.i d c.requires.more) c.in-Some.ensures (c.in_ok-advance.ensures.all c.if-not-branch.false) c.in_ok-handle.ensures
+    (slice_get-get_or c.args.items.now c.args.i d c.requires.more) c.in-Some.ensures (c.in_ok-advance.ensures.all c.if-not-branch.false) c.in_ok-handle.ensures

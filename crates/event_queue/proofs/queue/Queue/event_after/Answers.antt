@@ -57,4 +57,4 @@ returns-in-Some c =
     let there : arrival_at lists c.args.event c.halves.low ≡ Some c.in-Some.arrival = subst (λ (q : QueueValue). arrival_at q.arrivals c.args.event c.halves.low ≡ Some c.in-Some.arrival) c.self.view_is (sym c.arrival.ensures ∙ c.in-Some.is) in
     let met : c.halves.high ≡ c.halves.low = omega (arith, c.halves.invariant.some, c.halves-test.false) in
     tick_some lists sound.spaced c.args.now c.args.event c.args.done c.halves.low c.in-Some.arrival c.halves.invariant.from c.halves.invariant.come there
-      (c.halves.invariant.later c.in-Some.arrival (subst (λ k. arrival_at lists c.args.event k ≡ Some c.in-Some.arrival) (sym met) there))
+    (c.halves.invariant.later c.in-Some.arrival (subst (λ k. arrival_at lists c.args.event k ≡ Some c.in-Some.arrival) (sym met) there))
