@@ -9,3 +9,8 @@ pub mod Running
 mod Refusing
 pub mod Stopping
 pub mod Choosing
+pub mod OneFault
+pub mod OneSource
+pub mod OneProfile
+pub mod OneRun
+pub mod OneCheck

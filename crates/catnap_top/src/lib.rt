@@ -6,6 +6,7 @@ mod compiled;
 mod fault;
 mod line;
 mod list;
+mod one;
 mod reading;
 mod ready;
 mod refusal;
@@ -20,5 +21,6 @@ mod tests;
 mod top;
 mod words;
 
+pub use one::one_answer;
 pub use status::Status;
 pub use top::catnap;
