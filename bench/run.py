@@ -42,6 +42,11 @@ CASES = {
     "check-16-events": ({"F": MANY, "D": DEVICE.format(q=1000000)}, ["check", "F", "D"]),
     "check-49-vectors": ({"F": MANY, "D": DEVICE.format(q=50000)}, ["check", "F", "D"]),
     "check-49-reserves": ({"F": MANY, "D": DEVICE.format(q=1000000).replace("cap = 1000000", "cap = 300")}, ["check", "F", "D"]),
+    # a profile of the greatest length
+    "check-profile-longest": (
+        {"F": "event e spacing 1001 deadline 1001 { out 1, 1; }\n", "D": (DEVICE.format(q=720720) + "#").ljust(16777216, "x")},
+        ["check", "F", "D"],
+    ),
     "check-60000": ({"F": long_task("x = x + 1 ;     ", 14999), "D": DEVICE.format(q=1000)}, ["check", "F", "D"]),
     "run-loop-1000000": ({"F": LOOP}, ["run", "F", "1000000"]),
     "run-outputs-1000000": ({"F": OUTPUTS}, ["run", "F", "1000000"]),
