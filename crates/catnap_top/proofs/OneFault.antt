@@ -87,14 +87,14 @@ no_sooner ps a b first second less =
 one_kind : (ps : List Piece) (a b : SourceFault) → Fails ps a → Fails ps b → a ≡ b
 one_kind ps a b first second =
     let same : first.n ≡ second.n =
-      elim (cases_lt first.n second.n) [
-        inl less ↦ absurd (no_sooner ps a b first second less)
+    elim (cases_lt first.n second.n) [
+      | inl less ↦ absurd (no_sooner ps a b first second less)
       | inr le ↦
           elim (cases_lt second.n first.n) [
-            inl more ↦ absurd (no_sooner ps b a second first more)
-          | inr ge ↦ omega arith
+            | inl more ↦ absurd (no_sooner ps b a second first more)
+            | inr ge ↦ omega arith
           ]
-      ] in
+    ] in
     first.is_kind ∙ ap (λ n. get_or kinds n kind.BadNumber) same ∙ sym second.is_kind
 
 pub one_condition : (ps : List Piece) (f g : TypeFault) (a b : SourceFault) → IsTypeFault ps f → IsTypeFault ps g → kind_of_type_fault f ≡ Some a → kind_of_type_fault g ≡ Some b → a ≡ b

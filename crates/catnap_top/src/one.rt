@@ -63,7 +63,8 @@ fn one_check()
     one_choice_law();
 }
 
-/// What a form of words calls for over the bytes of its files is one answer: no other would meet the contract of `catnap`.
+/// What a form of words calls for over the bytes of its files is one answer: two implementations that both give what is called
+/// for give the same.
 pub fn one_answer()
     ensures { (form : TheForm) (files : List (List ℕ)) (a b : Answer) → CallsFor form files a → CallsFor form files b → a ≡ b }
 {

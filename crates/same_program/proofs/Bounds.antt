@@ -27,8 +27,8 @@ below : (P Q : List ℕ → Type 0) (f g : List ℕ → ℕ) (m n : ℕ) → ((p
     → IsGreatest P f m → IsGreatest Q g n → m ≤ n
 below P Q f g m n to same first second =
     elim (first.reached) [
-      inl some ↦ let here = second.upper some.0 (to some.0 some.1) in omega (arith, here, same some.0, some.2)
-    | inr none ↦ omega (arith, none.1)
+      | inl some ↦ let here = second.upper some.0 (to some.0 some.1) in omega (arith, here, same some.0, some.2)
+      | inr none ↦ omega (arith, none.1)
     ]
 
 one_greatest : (P Q : List ℕ → Type 0) (f g : List ℕ → ℕ) (m n : ℕ) → ((path : List ℕ) → P path → Q path) → ((path : List ℕ) → Q path → P path)
@@ -132,7 +132,7 @@ module _ (p q : Checked) (d e : Device) (lines : ℕ) (same : IsSame p q) (told 
   pub one_bounds : (b c : BoundsValue) → AreBounds p d lines b → AreBounds q e lines c → b ≡ c
   one_bounds b c first second =
       let jobs : b.jobs ≡ c.jobs = one_table b.jobs c.jobs (first.versions ∙ ap (map length) same.events ∙ sym second.versions)
-        (λ event version x y at at'. job_same event version x y (first.jobs event version x at) (second.jobs event version y at')) in
+      (λ event version x y at at'. job_same event version x y (first.jobs event version x at) (second.jobs event version y at')) in
       let size = same_tasks_size p q same in
       let section : b.section ≡ c.section = greatest_same (IsSection p) (IsSection q) b.section c.section (section_to p q code size) (section_to q p (sym code) (sym size)) first.section second.section in
       let checkpoint : b.checkpoint ≡ c.checkpoint = first.checkpoint ∙ writes_same d e told (lines + 1) ∙ sym second.checkpoint in

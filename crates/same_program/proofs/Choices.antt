@@ -65,14 +65,14 @@ not_before p loads limit s t first second less =
 one_spacing : (p : ℕ) (loads : List Load) (limit s t : ℕ) → IsTooLong p loads limit s → IsTooLong p loads limit t → s ≡ t
 one_spacing p loads limit s t first second =
     let at : first.index ≡ second.index =
-      elim (cases_lt first.index second.index) [
-        inl less ↦ absurd (not_before p loads limit s t first second less)
+    elim (cases_lt first.index second.index) [
+      | inl less ↦ absurd (not_before p loads limit s t first second less)
       | inr le ↦
           elim (cases_lt second.index first.index) [
-            inl more ↦ absurd (not_before p loads limit t s second first more)
-          | inr ge ↦ omega arith
+            | inl more ↦ absurd (not_before p loads limit t s second first more)
+            | inr ge ↦ omega arith
           ]
-      ] in
+    ] in
     let load : first.load ≡ second.load = some_same first.load second.load (sym first.is ∙ ap (slice_get loads) at ∙ second.is) in
     first.spacing_is ∙ ap (λ (x : Load). x.spacing) load ∙ sym second.spacing_is
   where
@@ -142,14 +142,14 @@ module _ (tables : List (List Load)) (order : List ℕ) (rows : AreRows tables o
   one_vector base v w first second =
       let window = window_same base.p first.k second.k v.window w.window (window_of base first.k v first.is) (window_of base second.k w second.is) in
       let same : first.k ≡ second.k =
-        elim (cases_lt first.k second.k) [
-          inl less ↦ absurd (no_less base v w first second less)
+      elim (cases_lt first.k second.k) [
+        | inl less ↦ absurd (no_less base v w first second less)
         | inr le ↦
             elim (cases_lt second.k first.k) [
-              inl more ↦ absurd (no_less base w v second first more)
-            | inr ge ↦ omega arith
+              | inl more ↦ absurd (no_less base w v second first more)
+              | inr ge ↦ omega arith
             ]
-        ] in
+      ] in
       vector_same base (take second.k order) v w (subst (λ k. IsVector base tables (take k order) v) same first.is) second.is window
 
   -- ---- one reason
@@ -217,8 +217,8 @@ module _ (p q : Checked) (d e : Device) (lines : ℕ) (b c : BoundsValue) (are :
   pub one_choice : (x y : Chosen) → IsChoice p b d lines x → IsChoice q c e lines y → x ≡ y
   one_choice x y first second =
       let vector : first.vector ≡ second.vector =
-        one_vector (tables_of p.headers b.jobs) p.mentions rows (base_of b d) first.vector second.vector first.is
-        (back (λ base tables order. IsChosen base tables order second.vector) second.is) in
+      one_vector (tables_of p.headers b.jobs) p.mentions rows (base_of b d) first.vector second.vector first.is
+      (back (λ base tables order. IsChosen base tables order second.vector) second.is) in
       chosen_same x y
       (first.versions ∙ ap (λ (v : Vector). v.versions) vector ∙ sym second.versions)
       (first.loads ∙ ap (λ (v : Vector). v.loads) vector ∙ sym second.loads)

@@ -19,7 +19,7 @@ same_of_tree a b p q same of_p of_q =
       names = names;
       headers = of_p.headers ∙ ap events_in same ∙ sym of_q.headers;
       started = of_p.started ∙ ap (λ (items : List Item). started_from (names_of items) items (replicate (length p.names) 0)) same
-        ∙ ap (λ (l : List (List ℕ)). started_from (names_of b.items) b.items (replicate (length l) 0)) names ∙ sym of_q.started;
+          ∙ ap (λ (l : List (List ℕ)). started_from (names_of b.items) b.items (replicate (length l) 0)) names ∙ sym of_q.started;
       tasks = of_p.tasks ∙ ap (λ (items : List Item). bodies_from (names_of items) 0 items) same ∙ sym of_q.tasks;
       events = of_p.events ∙ ap (λ (items : List Item). versions_from (names_of items) 0 items) same ∙ sym of_q.events;
       mentions = of_p.mentions ∙ ap (λ (items : List Item). mentions_in (names_of items) items) same ∙ sym of_q.mentions;

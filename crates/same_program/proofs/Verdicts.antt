@@ -21,7 +21,7 @@ pub divide_as : (n : ℕ) (xs ys : List Load) → spacings xs ≡ spacings ys �
 divide_as n xs ys same all k d within =
     let long : length xs ≡ length ys = sym (length-map xs (λ (x : Load). x.spacing)) ∙ ap length same ∙ length-map ys (λ (x : Load). x.spacing) in
     let at : (get_or xs k d).spacing ≡ (get_or ys k d).spacing =
-        sym (get_or-map (λ (x : Load). x.spacing) xs k d) ∙ ap (λ l. get_or l k d.spacing) same ∙ get_or-map (λ (x : Load). x.spacing) ys k d in
+    sym (get_or-map (λ (x : Load). x.spacing) xs k d) ∙ ap (λ l. get_or l k d.spacing) same ∙ get_or-map (λ (x : Load). x.spacing) ys k d in
     subst (λ s. s ∣ n) at (all k d (omega arith))
 
 window_least : (p : ℕ) (xs ys : List Load) (v w : ℕ) → spacings xs ≡ spacings ys → IsWindow p xs v → IsWindow p ys w → v ≤ w
@@ -38,12 +38,12 @@ one_window p xs ys v w same first second =
 one_late : (base : Base) (loads : List Load) (window m n : ℕ) → IsFirstLate base loads window m → IsFirstLate base loads window n → m ≡ n
 one_late base loads window m n first second =
     elim (cases_lt m n) [
-      inl less ↦ let fits = second.before m first.from less in let late = first.late in absurd (omega arith)
-    | inr le ↦
-        elim (cases_lt n m) [
-          inl more ↦ let fits = first.before n second.from more in let late = second.late in absurd (omega arith)
-        | inr ge ↦ omega arith
-        ]
+      | inl less ↦ let fits = second.before m first.from less in let late = first.late in absurd (omega arith)
+      | inr le ↦
+          elim (cases_lt n m) [
+            | inl more ↦ let fits = first.before n second.from more in let late = second.late in absurd (omega arith)
+            | inr ge ↦ omega arith
+          ]
     ]
 
 not_feasible : (base : Base) (loads : List Load) (window : ℕ) (v : Verdict) → IsFeasible base loads window → IsVerdict base loads window v → Yes ≡ v
@@ -52,12 +52,12 @@ not_feasible base loads window (F1 left right) fits is = let energy = fits.energ
 not_feasible base loads window (F2 left right) fits is = let room = fits.room in absurd (omega arith)
 not_feasible base loads window (F3 at left right) fits is =
     elim (is.2) [
-      inl busy ↦ let time = fits.busy in absurd (omega arith)
-    | inr late ↦
-        let first = late.1 in
-        let due = fits.due at first.some first.from first.within in
-        let over = first.late in
-        absurd (omega arith)
+      | inl busy ↦ let time = fits.busy in absurd (omega arith)
+      | inr late ↦
+          let first = late.1 in
+          let due = fits.due at first.some first.from first.within in
+          let over = first.late in
+          absurd (omega arith)
     ]
 
 pub one_verdict : (base : Base) (loads : List Load) (window : ℕ) (v w : Verdict) → IsVerdict base loads window v → IsVerdict base loads window w → v ≡ w
@@ -81,22 +81,22 @@ one_verdict base loads window (F3 at a b) (F1 c d) first second = absurd (omega 
 one_verdict base loads window (F3 at a b) (F2 c d) first second = absurd (omega arith)
 one_verdict base loads window (F3 m a b) (F3 n c d) first second =
     elim (first.2) [
-      inl busy ↦
-        elim (second.2) [
-          inl same ↦
-            let at : m ≡ n = omega arith in
-            let left : a ≡ c = omega arith in
-            let right : b ≡ d = omega arith in
-            cc
-        | inr late ↦ absurd (omega arith)
-        ]
-    | inr late ↦
-        elim (second.2) [
-          inl busy ↦ absurd (omega arith)
-        | inr other ↦
-            let at : m ≡ n = one_late base loads window m n late.1 other.1 in
-            let left : a ≡ c = late.2 ∙ ap (λ l. dbf loads l + block base loads l) at ∙ sym other.2 in
-            let right : b ≡ d = omega arith in
-            cc
-        ]
+      | inl busy ↦
+          elim (second.2) [
+            | inl same ↦
+                let at : m ≡ n = omega arith in
+                let left : a ≡ c = omega arith in
+                let right : b ≡ d = omega arith in
+                cc
+            | inr late ↦ absurd (omega arith)
+          ]
+      | inr late ↦
+          elim (second.2) [
+            | inl busy ↦ absurd (omega arith)
+            | inr other ↦
+                let at : m ≡ n = one_late base loads window m n late.1 other.1 in
+                let left : a ≡ c = late.2 ∙ ap (λ l. dbf loads l + block base loads l) at ∙ sym other.2 in
+                let right : b ≡ d = omega arith in
+                cc
+          ]
     ]
