@@ -20,8 +20,32 @@ def long_task(statement, count):
     return "int x = 0; task t {\n" + (statement + "\n") * count + "} start t;\n"
 
 
+LOOP = "int i = 0; int a[64]; task t { while i < 1000000 { a[i] = a[i - 1] + i; i = i + 1; } } start t;\n"
+OUTPUTS = "int i = 0; task t { while true { out 1, i; i = i + 1; } } start t;\n"
+
+DEVICE = """cap = 1000000
+start = 0
+resume = 0
+log = 100
+p = 720720
+q = {q}
+fill = "00"
+""" + "".join(f"[{name}]\nticks = 1\nbound = 1\nactual = 1\n" for name in ("basic", "memory", "out", "write", "wake"))
+
+# 16 events whose window is 720,720 ticks, and 48 mentions in their degrade order
+SPACINGS = [1001, 1008, 1040, 1092, 1144, 1170, 1232, 1260, 1287, 1365, 1386, 1430, 1456, 1540, 1560, 1584]
+MANY = "".join(f"event e{i} spacing {t} deadline {t} {{ out 1, {i}; }} else {{ out 1, 1; }} else {{ out 1, 2; }} else {{ out 1, 3; }}\n" for i, t in enumerate(SPACINGS))
+MANY += "degrade " + ", ".join(f"e{i}" for i in range(16)) + ";\n" + ("degrade " + ", ".join(f"e{i}" for i in range(16)) + ";\n") * 2
+
 # name: (files, words)
 CASES = {
+    "check-16-events": ({"F": MANY, "D": DEVICE.format(q=1000000)}, ["check", "F", "D"]),
+    "check-49-vectors": ({"F": MANY, "D": DEVICE.format(q=50000)}, ["check", "F", "D"]),
+    "check-49-reserves": ({"F": MANY, "D": DEVICE.format(q=1000000).replace("cap = 1000000", "cap = 300")}, ["check", "F", "D"]),
+    "check-60000": ({"F": long_task("x = x + 1 ;     ", 14999), "D": DEVICE.format(q=1000)}, ["check", "F", "D"]),
+    "run-loop-1000000": ({"F": LOOP}, ["run", "F", "1000000"]),
+    "run-outputs-1000000": ({"F": OUTPUTS}, ["run", "F", "1000000"]),
+    "list-60000": ({"F": long_task("x = x + 1 ;     ", 14999)}, ["list", "F"]),
     "run-14900-sums": ({"F": long_task("x=x+1;", 14900)}, ["run", "F", "1000000"]),
     "run-29000-outputs": ({"F": long_task("out 1,x;", 29000)}, ["run", "F", "1000000"]),
     "run-names-1024": (

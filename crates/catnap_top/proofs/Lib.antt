@@ -7,3 +7,10 @@ pub mod Own
 pub mod ReadMore
 pub mod Running
 mod Refusing
+pub mod Stopping
+pub mod Choosing
+pub mod OneFault
+pub mod OneSource
+pub mod OneProfile
+pub mod OneRun
+pub mod OneCheck

@@ -1,5 +1,5 @@
 -- A source that has no tokens, or whose tokens have no tree, is refused by the kind of its fault.
-use Rattle.std.proofs.Common.{◌≡◌, ℕ, ◌≤◌, List, length, None, refl}
+use Rattle.std.proofs.Common.{ℕ, ◌≤◌, List, length, None, refl}
 use Rattle.cat_tokens.specs.declared.token.Token.{Token}
 use Rattle.cat_tokens.specs.declared.lexer.LexFault.{LexFault}
 use Rattle.cat_tokens.specs.declared.lexer.LexFault.TheVariants as token

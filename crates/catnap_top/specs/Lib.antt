@@ -2,10 +2,14 @@ pub mod Answer
 pub mod Statuses
 pub mod Words
 pub mod Refusals
+pub mod Faults
 pub mod Source
 pub mod Run
 pub mod ReadyValue
-pub mod Prepared
+pub mod Listed
+pub mod CompiledValue
+pub mod Check
+pub mod SelectedValue
 pub mod Reply
 pub mod Reads
 pub mod Course

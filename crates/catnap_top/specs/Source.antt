@@ -14,6 +14,7 @@ use Rattle.cat_program.specs.Checked.{Checked}
 use Rattle.cat_resolve.specs.Program.{IsProgramOf}
 use Rattle.catnap_top.specs.declared.refusal.SourceFault.{SourceFault}
 use Rattle.catnap_top.specs.declared.refusal.SourceFault.TheVariants.{TooLong}
+use Rattle.catnap_top.specs.declared.fault.Fault.TheVariants.{Source}
 use Rattle.catnap_top.specs.declared.stop.Stop.{Stop}
 use Rattle.catnap_top.specs.declared.stop.Stop.TheVariants.{NoMemory, Refused}
 use Rattle.catnap_top.specs.Refusals.{kind_of_token_fault, kind_of_syntax_fault, kind_of_type_fault}
@@ -47,10 +48,11 @@ pub data IsRefused (source : List ℕ) (kind : SourceFault) : Type 0 where
 
 -- the refusal of this kind, or want of memory where there is none
 abbrev pub stop_of : Option SourceFault → Stop
-stop_of (Some kind) = Refused kind
+stop_of (Some kind) = Refused (Source kind)
 stop_of None = NoMemory
 
 -- why a source gave no program
 abbrev pub StopsFor : List ℕ → Stop → Type 0
-StopsFor source (Refused kind) = IsRefused source kind
+StopsFor source (Refused (Source kind)) = IsRefused source kind
+StopsFor source (Refused _) = ⊥
 StopsFor source NoMemory = Unit {0}

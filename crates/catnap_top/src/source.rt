@@ -3,6 +3,7 @@
 ghost use Rattle.std.specs.Prelude.{◌≡◌, MatchResult};
 ghost use Rattle.catnap_top.specs.Source.{IsSourceOf, StopsFor, stop_of};
 
+use crate::fault::Fault;
 use crate::refusal::{SourceFault, kind_of_syntax_fault, kind_of_token_fault, kind_of_type_fault};
 use crate::stop::Stop;
 use cat_program::Program;
@@ -19,7 +20,7 @@ fn stop(kind: Option<SourceFault>) -> Stop
     ensures { result ≡ stop_of kind }
 {
     match kind {
-        Some(kind) => Stop::Refused(kind),
+        Some(kind) => Stop::Refused(Fault::Source(kind)),
         None => Stop::NoMemory,
     }
 }
@@ -29,7 +30,7 @@ pub fn program_of(alloc: Global, source: &[u8]) -> Result<Program, Stop>
     ensures { MatchResult result (λ p. IsSourceOf source.now p) (λ stop. StopsFor source.now stop) }
 {
     if source.len() > MOST_SOURCE {
-        return Err(Stop::Refused(SourceFault::TooLong));
+        return Err(Stop::Refused(Fault::Source(SourceFault::TooLong)));
     }
     let found = match tokens(alloc, source) {
         Ok(found) => found,

@@ -121,3 +121,23 @@ fn runs_in_silence(rt: HostRuntime) -> Result<(), Fail> {
     assert_eq!(rt; sink.bytes(), b"steps 0\n".as_slice());
     Ok(())
 }
+
+#[test]
+fn lists_code(rt: HostRuntime) -> Result<(), Fail> {
+    let words = vec![in rt.alloc();
+        String::from_str(rt.alloc(), "list")?,
+        String::from_str(rt.alloc(), "s1")?,
+    ]?;
+    let listing =
+        "task t 0\n0 begin 0\n1 load 0\n2 push 1\n3 add\n4 store 0\n5 load 0\n6 out 1\n7 end\n";
+    for (source, status, text) in [
+        (S1, 0, listing),
+        ("", 0, ""),
+        ("start t;", 5, "fault source Unknown\n"),
+    ] {
+        let got = get(rt.alloc(), words.as_slice(), source.as_bytes(), 200)?;
+        assert_eq!(rt; got.status.number(), status, "{source}");
+        assert_eq!(rt; got.sink.bytes(), text.as_bytes(), "{source}");
+    }
+    Ok(())
+}

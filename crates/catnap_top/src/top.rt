@@ -52,13 +52,21 @@ fn respond<I: Inputs, K: Sink>(
 
 /// Answers words by what the inputs' files call for, and writes the answer into the sink.
 ///
-/// The words are `run SRC STEPS`, STEPS being 1 to 7 decimal digits of at most 1,000,000: the `out`
-/// lines of the first STEPS steps of the source's tasks, or of all that exist, and how many steps
-/// these are. All memory is taken before the first byte is written.
+/// The words are one of these forms:
+///
+/// - `run SRC STEPS`, STEPS being 1 to 7 decimal digits of at most 1,000,000: the `out` lines of the
+///   first STEPS steps of the source's tasks, or of all that exist, and how many steps these are.
+/// - `list SRC`: the listing of the source's code.
+/// - `check SRC DEVICE`: the versions of least degradation in which the device can serve the source's
+///   events, with what a job in each takes at most, and the numbers of that choice.
+///
+/// All memory is taken before the first byte is written.
 ///
 /// Refusals: `Usage` where the words are of no form; `ReadFault` only where the inputs' count of
 /// faults rose; `BadSource` where the source has more than 262,144 bytes, has no tokens or no tree,
-/// or is not a small one, with the first of these kinds; each of these writes one fault line.
+/// or breaks a condition, with the first of these kinds; `BadDevice` where the profile is none, with
+/// its first fault; `WindowTooLong` and `Rejected` where there is no choice. Each of these writes one
+/// fault line, and they are looked at in this order.
 /// `WriteFault` only where the sink's count of faults rose, and a proper prefix of the text has been
 /// written then. `NoMemory` before the first byte is written.
 pub fn catnap<I: Inputs, K: Sink>(

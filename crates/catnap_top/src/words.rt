@@ -9,6 +9,10 @@ const MOST_STEPS: u32 = 1_000_000;
 pub enum Form {
     /// `run SRC STEPS`
     Run { steps: u32 },
+    /// `list SRC`
+    List,
+    /// `check SRC DEVICE`
+    Check,
 }
 
 impl Form {
@@ -17,7 +21,8 @@ impl Form {
         ensures { result ≡ file_count self.now }
     {
         match self {
-            Form::Run { .. } => 1,
+            Form::Run { .. } | Form::List => 1,
+            Form::Check => 2,
         }
     }
 }
@@ -57,6 +62,8 @@ pub fn form_in(words: &[String]) -> Option<Form>
             let steps = number(steps.as_str(), 7, MOST_STEPS)?;
             Some(Form::Run { steps })
         }
+        [command, _, _] if command.as_str() == "check" => Some(Form::Check),
+        [command, _] if command.as_str() == "list" => Some(Form::List),
         _ => None,
     }
 }

@@ -66,3 +66,35 @@ pub(crate) fn name(key: Key) -> &'static str
         | Key::WakeActual => "actual",
     }
 }
+
+impl Key {
+    /// The key as a fault line names it, as `basic.ticks`: at most 13 bytes.
+    pub fn text(self) -> &'static str
+        ensures { result.now ≡ spec.text_of self }
+    {
+        match self {
+            Key::Cap => "cap",
+            Key::Start => "start",
+            Key::Resume => "resume",
+            Key::Log => "log",
+            Key::P => "p",
+            Key::Q => "q",
+            Key::Fill => "fill",
+            Key::BasicTicks => "basic.ticks",
+            Key::BasicBound => "basic.bound",
+            Key::BasicActual => "basic.actual",
+            Key::MemoryTicks => "memory.ticks",
+            Key::MemoryBound => "memory.bound",
+            Key::MemoryActual => "memory.actual",
+            Key::OutTicks => "out.ticks",
+            Key::OutBound => "out.bound",
+            Key::OutActual => "out.actual",
+            Key::WriteTicks => "write.ticks",
+            Key::WriteBound => "write.bound",
+            Key::WriteActual => "write.actual",
+            Key::WakeTicks => "wake.ticks",
+            Key::WakeBound => "wake.bound",
+            Key::WakeActual => "wake.actual",
+        }
+    }
+}

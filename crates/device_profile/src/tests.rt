@@ -163,3 +163,9 @@ fn a_profile_has_one_fault(rt: HostRuntime) -> Result<(), Fail> {
     );
     Ok(())
 }
+
+#[test]
+fn names_keys(rt: HostRuntime) {
+    assert_eq!(rt; Key::Cap.text(), "cap");
+    assert_eq!(rt; Key::MemoryActual.text(), "memory.actual");
+}

@@ -56,24 +56,24 @@ dropped-end timings earlier rows found i past = ap (λ rest. found ++ map droppe
 abbrev pub Remembers : List (Option ℕ) → List Timing → List ArrivalRow → Type 0
 Remembers lasts timings earlier = (event : ℕ) → event < 256 → get_or lasts event None ≡ last_kept timings event earlier
 
-equal_or_not : (a b : ℕ) → (a ≡ b) ⊎ (a ≢ b)
+pub equal_or_not : (a b : ℕ) → (a ≡ b) ⊎ (a ≢ b)
 equal_or_not a b = grind arith
 
-nat_eq-same : (a : ℕ) → nat_eq a a ≡ true
+pub nat_eq-same : (a : ℕ) → nat_eq a a ≡ true
 nat_eq-same a = grind (arith, nat_tests)
 
-nat_eq-other : (a b : ℕ) → a ≢ b → nat_eq a b ≡ false
+pub nat_eq-other : (a b : ℕ) → a ≢ b → nat_eq a b ≡ false
 nat_eq-other a b h = grind (arith, nat_tests)
 
-last_kept-taken : (timings : List Timing) (earlier : List ArrivalRow) (row : ArrivalRow) → is_kept timings earlier row ≡ true → last_kept timings row.event (row ∷ earlier) ≡ Some row.tick
+pub last_kept-taken : (timings : List Timing) (earlier : List ArrivalRow) (row : ArrivalRow) → is_kept timings earlier row ≡ true → last_kept timings row.event (row ∷ earlier) ≡ Some row.tick
 unfolding last_kept
 last_kept-taken timings earlier row holds = rw (nat_eq-same row.event, holds) refl
 
-last_kept-passed : (timings : List Timing) (earlier : List ArrivalRow) (row : ArrivalRow) → is_kept timings earlier row ≡ false → last_kept timings row.event (row ∷ earlier) ≡ last_kept timings row.event earlier
+pub last_kept-passed : (timings : List Timing) (earlier : List ArrivalRow) (row : ArrivalRow) → is_kept timings earlier row ≡ false → last_kept timings row.event (row ∷ earlier) ≡ last_kept timings row.event earlier
 unfolding last_kept
 last_kept-passed timings earlier row fails = rw (nat_eq-same row.event, fails) refl
 
-last_kept-other : (timings : List Timing) (earlier : List ArrivalRow) (row : ArrivalRow) (event : ℕ) → row.event ≢ event → last_kept timings event (row ∷ earlier) ≡ last_kept timings event earlier
+pub last_kept-other : (timings : List Timing) (earlier : List ArrivalRow) (row : ArrivalRow) (event : ℕ) → row.event ≢ event → last_kept timings event (row ∷ earlier) ≡ last_kept timings event earlier
 unfolding last_kept
 last_kept-other timings earlier row event ne = rw (nat_eq-other row.event event ne) refl
 

@@ -1,3 +1,5 @@
 pub mod Events
 pub mod KeptLemmas
+pub mod Orders
+pub mod Sound
 pub mod Steps

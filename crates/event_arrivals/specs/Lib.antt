@@ -3,3 +3,4 @@ pub mod Fault
 pub mod Kept
 pub mod Next
 pub mod Rows
+pub mod Spaced

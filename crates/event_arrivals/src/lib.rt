@@ -8,8 +8,6 @@ mod names;
 mod row;
 mod spacing;
 mod table;
-#[cfg(test)]
-mod tests;
 
 pub use arrival::{Arrival, Dropped};
 pub use lists::Arrivals;

@@ -1,5 +1,8 @@
 ghost use Rattle.std.specs.Prelude.{◌≡◌, ◌<◌, ◌≤◌, length, IfOk};
+ghost use Rattle.cn_base.specs.declared.TheConstants.{MOST_TICKS};
+ghost use Rattle.harvest_trace.specs.Timeline.{life_of};
 ghost use Rattle.event_arrivals.specs.Arrivals.{arrival_at, each_own, lists_of, periodic};
+ghost use Rattle.event_arrivals.specs.Spaced.{AreSound, HaveSpacings};
 
 use crate::arrival::{Arrival, Dropped};
 use crate::row::ArrivalRow;
@@ -22,12 +25,13 @@ pub struct Arrivals {
 impl Model for Arrivals {
     ghost use Rattle.std.specs.Prelude.{◌≡◌, ◌≤◌, length};
     ghost use Rattle.event_arrivals.specs.Arrivals.{Lists};
+    ghost use Rattle.event_arrivals.specs.Spaced.{AreSound};
 
     ghost Value = { Lists };
 
     ghost view = { λ a. record { timings = a.timings.items; kept = a.kept.items; dropped = a.dropped.items; trace = a.trace } };
 
-    ghost invariant = { λ a. (length a.timings.items ≤ 16) × (length a.kept.items ≡ length a.timings.items) };
+    ghost invariant = { λ a. (length a.timings.items ≤ 16) × (length a.kept.items ≡ length a.timings.items) × AreSound (record { timings = a.timings.items; kept = a.kept.items; dropped = a.dropped.items; trace = a.trace }) };
 }
 
 // The own rows of each event.
@@ -53,7 +57,8 @@ impl Arrivals {
         trace: Trace,
         rows: &[ArrivalRow],
     ) -> Result<Arrivals, AllocError>
-        requires { length timings.items ≤ 16 }
+        requires few { length timings.items ≤ 16 }
+        requires apart { HaveSpacings timings.items }
         ensures { IfOk result (λ found. found ≡ lists_of timings.items trace rows.now) }
     {
         let rows = before_end(alloc, rows, trace.life())?;
@@ -65,6 +70,14 @@ impl Arrivals {
             dropped: parted.dropped,
             trace,
         })
+    }
+
+    /// What holds of all arrivals: those of an event follow each other by its spacing or period, and come before the trace's end.
+    pub fn are_sound(&self)
+        ensures sound { AreSound self.now }
+        ensures bounded { life_of self.now.trace ≤ MOST_TICKS }
+    {
+        let _life = self.trace.life();
     }
 
     /// How many events there are, at most 16.

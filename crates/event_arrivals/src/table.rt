@@ -4,6 +4,7 @@ ghost use Rattle.cn_tables.specs.Table.{read_rows};
 ghost use Rattle.event_arrivals.specs.Arrivals.{arrivals_of, lists_of, timings_of};
 ghost use Rattle.event_arrivals.specs.Fault.{IsArrivalsFault};
 ghost use Rattle.event_arrivals.specs.Rows as spec;
+ghost use Rattle.event_arrivals.specs.Spaced.{HaveSpacings};
 
 use crate::lists::Arrivals;
 use crate::row::{ArrivalRow, row_of};
@@ -64,6 +65,7 @@ fn rows_of(
 fn timings_of(alloc: Global, program: &Program) -> Result<Vec<Timing>, AllocError>
     ensures timings { IfOk result (λ found. found.items ≡ timings_of program.now.headers) }
     ensures few { IfOk result (λ found. length found.items ≤ 16) }
+    ensures apart { IfOk result (λ found. HaveSpacings found.items) }
 {
     let _versions = program.versions();
     let mut found = Vec::new(alloc);

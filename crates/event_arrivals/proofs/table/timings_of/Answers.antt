@@ -1,5 +1,8 @@
-use Rattle.std.proofs.Common.{◌≡◌, ◌∙◌, ◌<◌, ◌≤◌, length, sym, arith, append-nil}
+use Rattle.std.proofs.Common.{◌≡◌, ◌∙◌, ◌<◌, ◌≤◌, length, subst, sym, arith, append-nil}
+use Rattle.event_arrivals.specs.Arrivals.{timings_of}
+use Rattle.event_arrivals.specs.Spaced.{HaveSpacings}
 use Rattle.event_arrivals.proofs.Events.{length-headers, timings-end, timings-more}
+use Rattle.event_arrivals.proofs.Sound.{have_spacings}
 use Rattle.event_arrivals.proofs.table.timings_of.Goals as goal
 
 pub events-preserved : goal.events-preserved
@@ -15,3 +18,11 @@ returns-clause-timings c =
     let size = length-headers p.headers p.events c.versions-versions.ensures.checked.declares in
     let past : length p.headers ≤ c.events.number = omega (arith, size, c.events-test.false, c.events-number-end.ensures.count) in
     sym (c.events.invariant ∙ timings-end p.headers c.events.found.items c.events.number past ∙ append-nil c.events.found.items)
+
+pub returns-clause-apart : goal.returns-clause-apart
+returns-clause-apart c =
+    let p = c.args.program.now in
+    let size = length-headers p.headers p.events c.versions-versions.ensures.checked.declares in
+    let past : length p.headers ≤ c.events.number = omega (arith, size, c.events-test.false, c.events-number-end.ensures.count) in
+    let all : timings_of p.headers ≡ c.events.found.items = c.events.invariant ∙ timings-end p.headers c.events.found.items c.events.number past ∙ append-nil c.events.found.items in
+    subst HaveSpacings all (have_spacings p.headers p.events c.versions-versions.ensures.checked.declares)

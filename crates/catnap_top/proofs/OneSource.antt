@@ -1,0 +1,82 @@
+-- A source stands for programs that say the same, or is refused for one kind.
+use Rattle.std.proofs.Common.{◌≡◌, ℕ, List, Option, Some, None, ap, sym, ◌∙◌, subst, arith}
+use Rattle.cat_tokens.specs.declared.token.Token.{Token}
+use Rattle.cat_tokens.specs.declared.lexer.LexFault.{LexFault}
+use Rattle.cat_tokens.specs.Lexemes.{Lexeme, lexemes}
+use Rattle.cat_tokens.specs.Lexes.{Lexes}
+use Rattle.cn_base.specs.declared.tree.Tree.{Tree}
+use Rattle.cn_base.specs.declared.tree.Item.{Item}
+use Rattle.cat_syntax.specs.Grammar.{IsProgram}
+use Rattle.cat_syntax.specs.Spells.{Spells, IsFault}
+use Rattle.cat_conditions.specs.Pieces.{items_pieces, pieces}
+use Rattle.cat_conditions.specs.Conditions.{IsFault as IsTypeFault, AllHold, all_conditions}
+use Rattle.cat_program.specs.Checked.{Checked}
+use Rattle.cat_resolve.specs.Program.{IsProgramOf}
+use Rattle.same_program.specs.Same.{IsSame}
+use Rattle.catnap_top.specs.declared.refusal.SourceFault.{SourceFault}
+use Rattle.catnap_top.specs.Source.{IsSourceOf, IsRefused, too_long, no_tokens, no_tree, unchecked}
+use Rattle.catnap_top.specs.Refusals.{kind_of_token_fault}
+use Rattle.catnap_top.proofs.OneFault.{one_syntax, spelled_or_not, one_condition, checked_or_not}
+
+abbrev pub OneLexing : Type 0
+OneLexing = (bytes : List ℕ) (a b : List Token) (f g : Option LexFault) → Lexes 0 bytes a f → Lexes 0 bytes b g → (a ≡ b) × (f ≡ g)
+
+abbrev pub OneTree : Type 0
+OneTree = (ts : List Lexeme) (a b : List Item) → IsProgram ts a → IsProgram ts b → a ≡ b
+
+abbrev pub SameProgram : Type 0
+SameProgram = (a b : Tree) (p q : Checked) → a.items ≡ b.items → IsProgramOf a p → IsProgramOf b q → IsSame p q
+
+module _ (lexing : OneLexing) (tree : OneTree) where
+  module _ (source : List ℕ) where
+    same_tokens : (ts us : List Token) → Lexes 0 source ts None → Lexes 0 source us None → ts ≡ us
+    same_tokens ts us first second = (lexing source ts us None None first second).0
+
+    whole_or_not : (ts us : List Token) (f : LexFault) → Lexes 0 source ts None → Lexes 0 source us (Some f) → ⊥
+    whole_or_not ts us f first second = let same = (lexing source ts us None (Some f) first second).1 in (cc)
+
+    same_fault : (ts us : List Token) (f g : LexFault) → Lexes 0 source ts (Some f) → Lexes 0 source us (Some g) → f ≡ g
+    same_fault ts us f g first second = let same = (lexing source ts us (Some f) (Some g) first second).1 in (cc)
+
+    same_items : (ts us : List Token) (a b : List Item) → Lexes 0 source ts None → Lexes 0 source us None → Spells (lexemes source ts) a → Spells (lexemes source us) b → a ≡ b
+    same_items ts us a b first second spells other =
+        tree (lexemes source us) a b (subst (λ l. IsProgram (lexemes source l) a) (same_tokens ts us first second) spells.derived) other.derived
+
+    pub programs_same : (program : SameProgram) (p q : Checked) → IsSourceOf source p → IsSourceOf source q → IsSame p q
+    programs_same program p q first second =
+        program first.tree second.tree p q (same_items first.tokens second.tokens first.tree.items second.tree.items first.lexed second.lexed first.spelled second.spelled) first.program second.program
+
+    pub source_or_not : (p : Checked) (a : SourceFault) → IsSourceOf source p → IsRefused source a → ⊥
+    source_or_not p a is (too_long long e) = let short = is.within in omega arith
+    source_or_not p a is (no_tokens ts f le lexes e) = whole_or_not is.tokens ts f is.lexed lexes
+    source_or_not p a is (no_tree ts f le lexes fault e) =
+        spelled_or_not (lexemes source ts) is.tree.items f a (subst (λ l. Spells (lexemes source l) is.tree.items) (same_tokens is.tokens ts is.lexed lexes) is.spelled) fault e
+    source_or_not p a is (unchecked ts t f le lexes spells fault e) =
+        checked_or_not (pieces t) f a
+        (subst (λ l. AllHold all_conditions (items_pieces l)) (same_items is.tokens ts is.tree.items t.items is.lexed lexes is.spelled spells) is.checked) fault e
+
+    pub one_refusal : (a b : SourceFault) → IsRefused source a → IsRefused source b → a ≡ b
+    one_refusal a b (too_long long e) (too_long more g) = e ∙ sym g
+    one_refusal a b (too_long long e) (no_tokens us g le second q) = absurd (omega arith)
+    one_refusal a b (too_long long e) (no_tree us g le second fault q) = absurd (omega arith)
+    one_refusal a b (too_long long e) (unchecked us u g le second spells fault q) = absurd (omega arith)
+    one_refusal a b (no_tokens ts f le first p) (too_long long e) = absurd (omega arith)
+    one_refusal a b (no_tokens ts f le first p) (no_tokens us g most second q) =
+        let same : f ≡ g = same_fault ts us f g first second in
+        let kind : Some a ≡ Some b = sym p ∙ ap kind_of_token_fault same ∙ q in
+        cc
+    one_refusal a b (no_tokens ts f le first p) (no_tree us g most second fault q) = absurd (whole_or_not us ts f second first)
+    one_refusal a b (no_tokens ts f le first p) (unchecked us u g most second spells fault q) = absurd (whole_or_not us ts f second first)
+    one_refusal a b (no_tree ts f le first fault p) (too_long long e) = absurd (omega arith)
+    one_refusal a b (no_tree ts f le first fault p) (no_tokens us g most second q) = absurd (whole_or_not ts us g first second)
+    one_refusal a b (no_tree ts f le first fault p) (no_tree us g most second other q) =
+        one_syntax (lexemes source us) f g a b (subst (λ l. IsFault (lexemes source l) f) (same_tokens ts us first second) fault) other p q
+    one_refusal a b (no_tree ts f le first fault p) (unchecked us u g most second spells other q) =
+        absurd (spelled_or_not (lexemes source us) u.items f a spells (subst (λ l. IsFault (lexemes source l) f) (same_tokens ts us first second) fault) p)
+    one_refusal a b (unchecked ts t f le first spells fault p) (too_long long e) = absurd (omega arith)
+    one_refusal a b (unchecked ts t f le first spells fault p) (no_tokens us g most second q) = absurd (whole_or_not ts us g first second)
+    one_refusal a b (unchecked ts t f le first spells fault p) (no_tree us g most second other q) =
+        absurd (spelled_or_not (lexemes source ts) t.items g b spells (subst (λ l. IsFault (lexemes source l) g) (same_tokens us ts second first) other) q)
+    one_refusal a b (unchecked ts t f le first spells fault p) (unchecked us u g most second others other q) =
+        one_condition (pieces u) f g a b
+        (subst (λ l. IsTypeFault (items_pieces l) f) (same_items ts us t.items u.items first second spells others) fault) other p q

@@ -1,0 +1,61 @@
+-- The text of a choice of versions, and the line that says why there is none.
+use Rattle.std.specs.Prelude.{ℕ, zero, suc, List, [], ◌∷◌, ◌++◌, length, Option, Some, None, slice_get, slice_index, slice_index_or, codes, decimal}
+use Rattle.cat_program.specs.declared.headers.Event.{Event}
+use Rattle.cat_program.specs.Checked.{Checked}
+use Rattle.demand_core.specs.declared.Load.{Load}
+use Rattle.demand_core.specs.declared.Numbers.{Numbers}
+use Rattle.feasibility.specs.declared.decide.Verdict.{Verdict}
+use Rattle.feasibility.specs.declared.decide.Verdict.TheVariants.{Yes, F1, F2, F3}
+use Rattle.feasibility.specs.Chosen.{no_load}
+use Rattle.degradation.specs.declared.chosen.Chosen.{Chosen}
+
+-- words with one space between them, and the end of the line
+abbrev pub line : List (List ℕ) → List ℕ
+line [] = codes "\n"
+line (word ∷ []) = word ++ codes "\n"
+line (word ∷ words) = word ++ (codes " " ++ line words)
+
+-- the texts of 0, 1 and so on below n, one after the other
+abbrev pub in_turn : (ℕ → List ℕ) → ℕ → List ℕ
+in_turn text zero = []
+in_turn text (suc n) = in_turn text n ++ text n
+
+-- ---- a choice
+
+-- an event's version, and the most units and ticks of a job in it
+abbrev pub version_line : List ℕ → ℕ → Load → List ℕ
+version_line name version load =
+    line (codes "version" ∷ name ∷ decimal version ∷ codes "units" ∷ decimal load.units ∷ codes "ticks" ∷ decimal load.ticks ∷ [])
+
+abbrev pub numbers_line : Numbers → List ℕ
+numbers_line n =
+    line (codes "numbers" ∷ codes "lines" ∷ decimal n.lines ∷ codes "checkpoint" ∷ decimal n.checkpoint ∷ codes "section" ∷ decimal n.section
+    ∷ codes "reserve" ∷ decimal n.reserve ∷ codes "level" ∷ decimal n.level ∷ codes "window" ∷ decimal n.window ∷ [])
+
+abbrev pub name_of : Option Event → List ℕ
+name_of None = []
+name_of (Some event) = event.name
+
+-- the line of an event by its number
+abbrev pub event_line : Checked → Chosen → ℕ → List ℕ
+event_line p chosen e = version_line (name_of (slice_get p.headers e)) (slice_index chosen.versions e) (slice_index_or chosen.loads e no_load)
+
+-- the line of each event in order, and then the numbers
+abbrev pub chosen_text : Checked → Chosen → List ℕ
+chosen_text p chosen = in_turn (event_line p chosen) (length p.events) ++ numbers_line chosen.numbers
+
+-- ---- no choice
+
+-- with this spacing the window is too long
+abbrev pub window_line : ℕ → List ℕ
+window_line spacing = line (codes "fault" ∷ codes "window" ∷ decimal spacing ∷ [])
+
+-- the inequality that fails: at which length, if it has one, and both sides
+abbrev pub verdict_words : Verdict → List (List ℕ)
+verdict_words Yes = []
+verdict_words (F1 left right) = codes "F1" ∷ decimal left ∷ decimal right ∷ []
+verdict_words (F2 left right) = codes "F2" ∷ decimal left ∷ decimal right ∷ []
+verdict_words (F3 at left right) = codes "F3" ∷ decimal at ∷ decimal left ∷ decimal right ∷ []
+
+abbrev pub rejected_line : Verdict → List ℕ
+rejected_line verdict = line (codes "fault" ∷ codes "rejected" ∷ verdict_words verdict)

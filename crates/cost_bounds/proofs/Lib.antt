@@ -1,0 +1,10 @@
+pub mod TaskPaths
+pub mod HandlerPaths
+pub mod Programs
+pub mod Known
+pub mod KnownJobs
+pub mod Worths
+pub mod Passing
+pub mod Ends
+pub mod Totals
+pub mod Made

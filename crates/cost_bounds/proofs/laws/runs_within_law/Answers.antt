@@ -1,0 +1,5 @@
+use Rattle.cost_bounds.proofs.Programs.{runs_within}
+use Rattle.cost_bounds.proofs.laws.runs_within_law.Goals as goal
+
+pub returns : goal.returns
+returns c = runs_within

@@ -1,0 +1,4 @@
+pub mod Paths
+pub mod BoundsValue
+pub mod Greatest
+pub mod Pass

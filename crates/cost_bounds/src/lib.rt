@@ -1,0 +1,14 @@
+//! The greatest units and ticks of the sections, the handlers and the checkpoints of a program's code.
+#![tactic(auto)]
+
+mod job;
+mod laws;
+mod pass;
+mod place;
+#[cfg(test)]
+mod tests;
+mod total;
+
+pub use job::{Bounds, Job};
+pub use laws::{runs_within_law, versions_have_jobs_law};
+pub use total::bounds;

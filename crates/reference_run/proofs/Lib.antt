@@ -1,0 +1,4 @@
+pub mod Advancing
+pub mod Going
+pub mod Nexts
+pub mod Unique

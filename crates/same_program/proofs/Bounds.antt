@@ -1,0 +1,147 @@
+-- The bounds of programs that say the same, on devices that say the same.
+use Rattle.std.proofs.Common.{◌≡◌, ℕ, suc, ◌+◌, ◌*◌, ◌≤◌, List, [], ◌∷◌, length, Option, Some, None, inl, inr, refl, ap, sym, ◌∙◌, subst, arith}
+use Rattle.std.specs.Prelude.{map, slice_get, unwrap_or}
+use Rattle.cat_program.specs.declared.syntax.Class.{Class}
+use Rattle.cat_program.specs.declared.syntax.Class.TheVariants.{Basic, Memory, Out}
+use Rattle.cat_program.specs.Places.{tasks_size}
+use Rattle.cat_program.specs.Checked.{Checked, bodies_of}
+use Rattle.nv_memory.specs.declared.device.Device.{Device}
+use Rattle.nv_memory.specs.declared.device.Cost.{Cost}
+use Rattle.device_profile.specs.Profile.{CostNumbers, Profile}
+use Rattle.device_profile.specs.Told.{numbers_of, profile_told}
+use Rattle.cat_machine.specs.declared.instr.Instr.{Instr}
+use Rattle.cat_machine.specs.ClassOf.{class_of}
+use Rattle.cat_machine.specs.CodeValue.{CodeValue, EntryAt}
+use Rattle.cat_machine.specs.Code.{code_of}
+use Rattle.cat_machine.specs.Costs.{Costs, instr_cost, place_cost, path_cost}
+use Rattle.cost_bounds.specs.declared.job.Job.{Job}
+use Rattle.cost_bounds.specs.BoundsValue.{BoundsValue}
+use Rattle.cost_bounds.specs.Paths.{SectionFrom, HandlerFrom, IsSection, IsHandler}
+use Rattle.cost_bounds.specs.Greatest.{units_of, ticks_of, sum_over, IsGreatest, AreGreatest, times, whole_job, IsJob, AreBounds}
+use Rattle.same_program.specs.Same.{IsSame}
+use Rattle.same_program.proofs.Codes.{code_same, same_tasks_size}
+
+-- ---- a greatest sum is one
+
+below : (P Q : List ℕ → Type 0) (f g : List ℕ → ℕ) (m n : ℕ) → ((path : List ℕ) → P path → Q path) → ((path : List ℕ) → f path ≡ g path)
+    → IsGreatest P f m → IsGreatest Q g n → m ≤ n
+below P Q f g m n to same first second =
+    elim (first.reached) [
+      | inl some ↦ let here = second.upper some.0 (to some.0 some.1) in omega (arith, here, same some.0, some.2)
+      | inr none ↦ omega (arith, none.1)
+    ]
+
+one_greatest : (P Q : List ℕ → Type 0) (f g : List ℕ → ℕ) (m n : ℕ) → ((path : List ℕ) → P path → Q path) → ((path : List ℕ) → Q path → P path)
+    → ((path : List ℕ) → f path ≡ g path) → IsGreatest P f m → IsGreatest Q g n → m ≡ n
+one_greatest P Q f g m n to from same first second =
+    let one = below P Q f g m n to same first second in
+    let other = below Q P g f n m from (λ path. sym (same path)) second first in
+    omega arith
+
+-- ---- sums by costs and code that are the same
+
+instr_same : (u v : Costs) → ((class : Class) → u class ≡ v class) → (i : Option Instr) → instr_cost u i ≡ instr_cost v i
+instr_same u v each None = refl
+instr_same u v each (Some i) = each (class_of i)
+
+path_same : (u v : Costs) (code : CodeValue) → ((class : Class) → u class ≡ v class) → (path : List ℕ) → path_cost (place_cost u code) path ≡ path_cost (place_cost v code) path
+path_same u v code each [] = refl
+path_same u v code each (pc ∷ path) = omega (arith, instr_same u v each (slice_get code.instrs pc), path_same u v code each path)
+
+sum_same : (u v : Costs) (p q : Checked) → code_of p ≡ code_of q → ((class : Class) → u class ≡ v class) → (path : List ℕ) → sum_over u p path ≡ sum_over v q path
+sum_same u v p q code each path = path_same u v (code_of p) each path ∙ ap (λ c. path_cost (place_cost v c) path) code
+
+abbrev job_by : ℕ → ℕ → Job
+job_by units ticks = record { units = units; ticks = ticks }
+
+one_job : (a b : Job) → a.units ≡ b.units → a.ticks ≡ b.ticks → a ≡ b
+one_job a b units ticks = ap (λ n. job_by n a.ticks) units ∙ ap (job_by b.units) ticks
+
+-- ---- tables of jobs that agree in each place
+
+one_row : (xs ys : List Job) → length xs ≡ length ys → ((v : ℕ) (a b : Job) → slice_get xs v ≡ Some a → slice_get ys v ≡ Some b → a ≡ b) → xs ≡ ys
+one_row [] [] long each = refl
+one_row (x ∷ xs) (y ∷ ys) long each = cc (each 0 x y refl refl, one_row xs ys (omega arith) (λ v. each (suc v)))
+one_row [] (y ∷ ys) long each = absurd (omega arith)
+one_row (x ∷ xs) [] long each = absurd (omega arith)
+
+abbrev in_rows : List (List Job) → ℕ → ℕ → Option Job
+in_rows rows e v = slice_get (unwrap_or (slice_get rows e) []) v
+
+one_table : (xs ys : List (List Job)) → map length xs ≡ map length ys → ((e v : ℕ) (a b : Job) → in_rows xs e v ≡ Some a → in_rows ys e v ≡ Some b → a ≡ b) → xs ≡ ys
+one_table [] [] long each = refl
+one_table (x ∷ xs) (y ∷ ys) long each = cc (one_row x y (cc) (each 0), one_table xs ys (cc) (λ e. each (suc e)))
+one_table [] (y ∷ ys) long each = absurd (cc)
+one_table (x ∷ xs) [] long each = absurd (cc)
+
+-- ---- devices that say the same
+
+module _ (d e : Device) (told : profile_told d ≡ profile_told e) where
+  units_same : (class : Class) → units_of d class ≡ units_of e class
+  units_same Basic = ap (λ (t : Profile). t.basic.bound) told
+  units_same Memory = ap (λ (t : Profile). t.memory.bound) told
+  units_same Out = ap (λ (t : Profile). t.out.bound) told
+
+  ticks_same : (class : Class) → ticks_of d class ≡ ticks_of e class
+  ticks_same Basic = ap (λ (t : Profile). t.basic.ticks) told
+  ticks_same Memory = ap (λ (t : Profile). t.memory.ticks) told
+  ticks_same Out = ap (λ (t : Profile). t.out.ticks) told
+
+  times_same : (n : ℕ) (c k : Cost) → numbers_of c ≡ numbers_of k → times n c ≡ times n k
+  times_same n c k same = one_job (times n c) (times n k) (ap (λ (t : CostNumbers). n * t.bound) same) (ap (λ (t : CostNumbers). n * t.ticks) same)
+
+  writes_same : (n : ℕ) → times n d.write ≡ times n e.write
+  writes_same n = times_same n d.write e.write (ap (λ (t : Profile). t.write) told)
+
+  wake_same : times 1 d.wake ≡ times 1 e.wake
+  wake_same = times_same 1 d.wake e.wake (ap (λ (t : Profile). t.wake) told)
+
+  whole_same : (lines : ℕ) (a b : Job) → a ≡ b → whole_job d lines a ≡ whole_job e lines b
+  whole_same lines a b same = cc (writes_same (lines + 2), wake_same)
+
+-- ---- the bounds
+
+section_to : (p q : Checked) → code_of p ≡ code_of q → tasks_size (bodies_of p) ≡ tasks_size (bodies_of q) → (path : List ℕ) → IsSection p path → IsSection q path
+section_to p q code size path is =
+    record { from = is.from; within = omega (arith, is.within); is = subst (λ c. SectionFrom c is.from path) code is.is }
+
+handler_to : (p q : Checked) → code_of p ≡ code_of q → (event version : ℕ) (path : List ℕ) → IsHandler p event version path → IsHandler q event version path
+handler_to p q code event version path is =
+    record {
+      entry = is.entry;
+      enters = subst (λ c. EntryAt c event version is.entry) code is.enters;
+      is = subst (λ c. HandlerFrom c is.entry [] path) code is.is;
+    }
+
+module _ (p q : Checked) (d e : Device) (lines : ℕ) (same : IsSame p q) (told : profile_told d ≡ profile_told e) where
+  code : code_of p ≡ code_of q
+  code = code_same p q same
+
+  greatest_same : (P Q : List ℕ → Type 0) (a b : Job) → ((path : List ℕ) → P path → Q path) → ((path : List ℕ) → Q path → P path)
+      → AreGreatest P p d a → AreGreatest Q q e b → a ≡ b
+  greatest_same P Q a b to from first second =
+      one_job a b
+      (one_greatest P Q (sum_over (units_of d) p) (sum_over (units_of e) q) a.units b.units to from (sum_same (units_of d) (units_of e) p q code (units_same d e told)) first.units second.units)
+      (one_greatest P Q (sum_over (ticks_of d) p) (sum_over (ticks_of e) q) a.ticks b.ticks to from (sum_same (ticks_of d) (ticks_of e) p q code (ticks_same d e told)) first.ticks second.ticks)
+
+  job_same : (event version : ℕ) (a b : Job) → IsJob p d lines event version a → IsJob q e lines event version b → a ≡ b
+  job_same event version a b first second =
+      let handler = greatest_same (IsHandler p event version) (IsHandler q event version) first.handler second.handler (handler_to p q code event version) (handler_to q p (sym code) event version) first.greatest second.greatest in
+      first.whole ∙ whole_same d e told lines first.handler second.handler handler ∙ sym second.whole
+
+  pub one_bounds : (b c : BoundsValue) → AreBounds p d lines b → AreBounds q e lines c → b ≡ c
+  one_bounds b c first second =
+      let jobs : b.jobs ≡ c.jobs = one_table b.jobs c.jobs (first.versions ∙ ap (map length) same.events ∙ sym second.versions)
+      (λ event version x y at at'. job_same event version x y (first.jobs event version x at) (second.jobs event version y at')) in
+      let size = same_tasks_size p q same in
+      let section : b.section ≡ c.section = greatest_same (IsSection p) (IsSection q) b.section c.section (section_to p q code size) (section_to q p (sym code) (sym size)) first.section second.section in
+      let checkpoint : b.checkpoint ≡ c.checkpoint = first.checkpoint ∙ writes_same d e told (lines + 1) ∙ sym second.checkpoint in
+      let wake : b.wake ≡ c.wake = first.wake ∙ wake_same d e told ∙ sym second.wake in
+      bounds_same b c jobs section checkpoint wake
+    where
+      bounds_same : (b c : BoundsValue) → b.jobs ≡ c.jobs → b.section ≡ c.section → b.checkpoint ≡ c.checkpoint → b.wake ≡ c.wake → b ≡ c
+      bounds_same b c jobs section checkpoint wake =
+          ap (λ j. record { jobs = j; section = b.section; checkpoint = b.checkpoint; wake = b.wake }) jobs
+          ∙ ap (λ j. record { jobs = c.jobs; section = j; checkpoint = b.checkpoint; wake = b.wake }) section
+          ∙ ap (λ j. record { jobs = c.jobs; section = c.section; checkpoint = j; wake = b.wake }) checkpoint
+          ∙ ap (λ j. record { jobs = c.jobs; section = c.section; checkpoint = c.checkpoint; wake = j }) wake

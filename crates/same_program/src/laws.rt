@@ -1,0 +1,49 @@
+ghost use Rattle.std.specs.Prelude.{◌≡◌, ◌≢◌, ℕ, ℤ};
+ghost use Rattle.cn_base.specs.declared.tree.Tree.{Tree};
+ghost use Rattle.cat_program.specs.Checked.{Checked, body_at, first_state, version_at};
+ghost use Rattle.cat_program.specs.Meaning.{Store, TaskState, handled, task_step_of};
+ghost use Rattle.cat_resolve.specs.Program.{IsProgramOf};
+ghost use Rattle.cat_machine.specs.Code.{code_of};
+ghost use Rattle.cat_compile.specs.Listing.{listing_text};
+ghost use Rattle.same_program.specs.Same.{IsSame};
+ghost use Rattle.nv_memory.specs.declared.device.Device.{Device as Profile};
+ghost use Rattle.cost_bounds.specs.BoundsValue.{BoundsValue};
+ghost use Rattle.feasibility.specs.declared.choose.ChooseFault.{ChooseFault};
+ghost use Rattle.feasibility.specs.declared.choose.ChooseFault.TheVariants.{NoMemory};
+ghost use Rattle.degradation.specs.declared.chosen.Chosen.{Chosen};
+ghost use Rattle.degradation.specs.Choice.{IsChoice, IsNoChoice};
+ghost use Rattle.same_program.specs.Setting.{AreSettings};
+ghost use Rattle.same_program.specs.Alike.{StateIsLike, StepIsLike};
+
+/// All programs of a source say the same.
+pub fn same_program_law()
+    ensures { (a b : Tree) (p q : Checked) → a.items ≡ b.items → IsProgramOf a p → IsProgramOf b q → IsSame p q }
+{}
+
+/// Programs that say the same do the same: step by step in their tasks, and in each version of an event.
+pub fn same_steps_law()
+    ensures first { (p q : Checked) → IsSame p q → StateIsLike (first_state p) (first_state q) }
+    ensures step { (p q : Checked) (s t : TaskState) → IsSame p q → StateIsLike s t → StepIsLike (task_step_of (body_at p) s) (task_step_of (body_at q) t) }
+    ensures handled { (p q : Checked) (event version : ℕ) (payload : ℤ) (s : Store) → IsSame p q → handled (version_at p event version) payload s ≡ handled (version_at q event version) payload s }
+{}
+
+/// Programs that say the same have the same code, and it is listed the same.
+pub fn same_code_law()
+    ensures code { (p q : Checked) → IsSame p q → code_of p ≡ code_of q }
+    ensures listing { (p q : Checked) → IsSame p q → listing_text p (code_of p) ≡ listing_text q (code_of q) }
+{}
+
+/// The bounds of programs that say the same are the same, on devices that say the same.
+pub fn one_bounds_law()
+    ensures { (p q : Checked) (d e : Profile) (lines : ℕ) (b c : BoundsValue) → AreSettings p q d e lines b c → b ≡ c }
+{}
+
+/// There is one choice of versions, or one reason why there is none; want of memory is no reason.
+pub fn one_choice_law()
+    ensures choice { (p q : Checked) (d e : Profile) (lines : ℕ) (b c : BoundsValue) → AreSettings p q d e lines b c →
+        (x y : Chosen) → IsChoice p b d lines x → IsChoice q c e lines y → x ≡ y }
+    ensures reason { (p q : Checked) (d e : Profile) (lines : ℕ) (b c : BoundsValue) → AreSettings p q d e lines b c →
+        (f g : ChooseFault) → IsNoChoice p b d f → IsNoChoice q c e g → f ≢ NoMemory → g ≢ NoMemory → f ≡ g }
+    ensures either { (p q : Checked) (d e : Profile) (lines : ℕ) (b c : BoundsValue) → AreSettings p q d e lines b c →
+        (x : Chosen) (f : ChooseFault) → IsChoice p b d lines x → IsNoChoice q c e f → f ≡ NoMemory }
+{}
