@@ -1,4 +1,4 @@
-ghost use Rattle.std.specs.Prelude.{◌≡◌, ◌∷◌, [], true, false, map, length, IfOk, IfErr, OnOk, slice_index_or};
+ghost use Rattle.std.specs.Prelude.{◌≡◌, ◌∷◌, [], true, false, map, length, IfOk, IfErr, OnOk, OnErr, slice_index_or};
 ghost use Rattle.csv.specs.Reading.{default_config, records, strip_bom};
 ghost use Rattle.csv.specs.Records.{fields_of};
 ghost use Rattle.cn_tables.specs.RowsValue.{IsReading, left_of};
@@ -64,6 +64,8 @@ impl<'a> Rows<'a> {
     pub fn next_row(&mut self) -> Result<bool, NoMemory>
         ensures row { IfOk result (λ found. found ≡ true → self.old.left ≡ self.new.current ∷ self.new.left) }
         ensures end { IfOk result (λ found. found ≡ false → self.old.left ≡ []) }
+        ensures ended { IfOk result (λ found. found ≡ false → self.new.left ≡ []) }
+        ensures failed { OnErr result (self.new.left ≡ []) }
     {
         if self.over {
             return Ok(false);
