@@ -54,7 +54,7 @@ step_same code h after step =
     subst (AllSome (Same h)) found.does (act_same found.instr found.pc h)
 
 -- a section that has not acted has changed only the place and the stack
-unacted_same : (code : CodeValue) (before now : Held) → Unacted code before now → now ≡ placed before now
+pub unacted_same : (code : CodeValue) (before now : Held) → Unacted code before now → now ≡ placed before now
 unacted_same code before now Begun = refl
 unacted_same code before now (Further {h} {after} u step) = step_same code h now step ∙ ap (λ (x : Held). placed x now) (unacted_same code before h u)
 

@@ -1,5 +1,5 @@
 -- What code costs, where each class has its cost.
-use Rattle.std.specs.Prelude.{ℕ, ◌+◌, ◌*◌, max, List, [], ◌∷◌, Option, Some, None, slice_get}
+use Rattle.std.specs.Prelude.{◌≡◌, ℕ, ◌+◌, ◌*◌, ◌<◌, max, List, [], ◌∷◌, length, Option, Some, None, slice_get}
 use Rattle.cat_program.specs.declared.syntax.Expr.{Expr}
 use Rattle.cat_program.specs.Body.{Simple, Body, Empty, Plain, When, Choice, Loop, Turns}
 use Rattle.cat_machine.specs.declared.instr.Instr.{Instr}
@@ -82,3 +82,12 @@ handler_most u (Turns b p n body rest) =
 abbrev pub path_cost : (ℕ → ℕ) → List ℕ → ℕ
 path_cost f [] = 0
 path_cost f (pc ∷ path) = f pc + path_cost f path
+
+-- the places of a path are those of instructions
+abbrev pub InCode : CodeValue → List ℕ → Type 0
+InCode code [] = Unit {0}
+InCode code (pc ∷ path) = ((instr : Instr) × (slice_get code.instrs pc ≡ Some instr)) × InCode code path
+
+-- a path in the code, with one place at least
+abbrev pub IsPathIn : CodeValue → List ℕ → Type 0
+IsPathIn code path = InCode code path × (0 < length path)

@@ -1,33 +1,50 @@
 -- One byte more than the greatest file has tells as much as the whole file.
-use Rattle.std.proofs.Common.{◌≡◌, ℕ, ◌+◌, ◌<◌, ◌≤◌, List, [], ◌∷◌, length, take, map, arith, inl, inr, subst}
+use Rattle.std.proofs.Common.{◌≡◌, ℕ, zero, suc, ◌+◌, ◌<◌, ◌≤◌, List, [], ◌∷◌, length, take, map, Result, Ok, Err, refl, sym, ap, ◌∙◌, arith, inl, inr, subst}
+use Rattle.std.specs.Prelude.{get_or, nat_lt, true}
 use Rattle.std.proofs.lemmas.List.{take_all, length-take}
 use Rattle.std.proofs.lemmas.Bool.{cases_lt}
-use Rattle.catnap_top.specs.declared.words.Form.{Form}
-use Rattle.catnap_top.specs.declared.words.Form.TheVariants.{Run, List as Listing, Check}
-use Rattle.catnap_top.specs.Answer.{Answer, most_bytes}
+use Rattle.std.proofs.lemmas.Bool.Decides.{nat_tests}
 use Rattle.cat_program.specs.Checked.{Checked}
-use Rattle.catnap_top.specs.declared.refusal.SourceFault.{SourceFault}
-use Rattle.catnap_top.specs.Source.{most_source, IsSourceOf, IsRefused, too_long, no_tokens, no_tree, unchecked}
-use Rattle.catnap_top.specs.Run.{RunCallsFor, refuses, runs}
-use Rattle.catnap_top.specs.Listed.{ListCallsFor, lists}
-use Rattle.catnap_top.specs.Listed as list
+use Rattle.cn_tables.specs.declared.fault.RowKind.TheVariants.{Long}
+use Rattle.cn_tables.specs.Table.{Bad, Fields, Step, table_rows, then_rows, read_rows, read_table}
+use Rattle.event_arrivals.specs.Arrivals.{Lists, arrivals_of, lists_or_bad, timings_of}
+use Rattle.harvest_trace.specs.FailsTable.{fails_of}
+use Rattle.harvest_trace.specs.TraceTable.{trace_of}
+use Rattle.harvest_trace.specs.declared.failures.Failure.{Failure}
+use Rattle.harvest_trace.specs.declared.row.TraceRow.{TraceRow}
 use Rattle.nv_memory.specs.declared.device.Device.{Device}
-use Rattle.catnap_top.specs.Check.{IsDeviceOf, IsBadDevice, IsUnserved, IsCheckFault, IsChosenFor, CheckCallsFor, chooses}
-use Rattle.catnap_top.specs.Check as check
+use Rattle.catnap_top.specs.declared.words.Form.{Form}
+use Rattle.catnap_top.specs.declared.words.Form.TheVariants.{Run, List as Listing, Check, Replay}
+use Rattle.catnap_top.specs.declared.refusal.SourceFault.{SourceFault}
 use Rattle.catnap_top.specs.declared.fault.ProfileFault.{ProfileFault}
 use Rattle.catnap_top.specs.declared.fault.ProfileFault.TheVariants as profile
-use Rattle.catnap_top.specs.declared.fault.Fault.{Fault}
+use Rattle.catnap_top.specs.declared.fault.Table.{Table}
 use Rattle.catnap_top.specs.declared.fault.Fault.TheVariants as fault
-use Rattle.catnap_top.specs.Reply.{CallsFor}
+use Rattle.catnap_top.specs.Answer.{Answer, most_bytes}
+use Rattle.catnap_top.specs.Source.{most_source, IsSourceOf, IsRefused, too_long, no_tokens, no_tree, unchecked}
+use Rattle.catnap_top.specs.Files.{IsSource, program_in, IsProfile, device_in, table_in, trace_in, arrivals_in, failures_in, files_in}
+use Rattle.catnap_top.specs.Look.{Look, By}
+use Rattle.catnap_top.specs.Reply.{looks_of, CallsFor}
+use Rattle.catnap_top.proofs.Looks.{Leads, by_leads, then_leads, comes_to_leads}
 
 abbrev pub front : List ℕ → List ℕ
 front file = take (most_bytes + 1) file
 
-pub front_long : (file : List ℕ) → most_bytes < length file → most_bytes < length (front file)
+front_long : (file : List ℕ) → most_bytes < length file → most_bytes < length (front file)
 front_long file lt = simp length-take (omega arith)
 
-pub front_short : (file : List ℕ) → length file ≤ most_bytes → front file ≡ file
+front_short : (file : List ℕ) → length file ≤ most_bytes → front file ≡ file
 front_short file le = take_all (most_bytes + 1) file (omega arith)
+
+-- what holds of the front of a long file, and of a short file, holds of every file
+by_front : (P : List ℕ → Type 0) (file : List ℕ) → (most_bytes < length file → most_bytes < length (front file) → P (front file) → P file) → P (front file) → P file
+by_front P file long h =
+    elim (cases_lt most_bytes (length file)) [
+      | inl lt ↦ long lt (front_long file lt) h
+      | inr le ↦ subst P (front_short file le) h
+    ]
+
+-- ---- a source
 
 -- a source that long is refused either way
 refused_long : (file : List ℕ) (kind : SourceFault) → most_bytes < length file → most_bytes < length (front file)
@@ -37,92 +54,102 @@ refused_long file kind lt more (no_tokens tokens fault le lexes e) = absurd (ome
 refused_long file kind lt more (no_tree tokens fault le lexes is e) = absurd (omega arith)
 refused_long file kind lt more (unchecked tokens tree fault le lexes spelled is e) = absurd (omega arith)
 
-not_long : (file : List ℕ) (p : Checked) → most_bytes < length (front file) → IsSourceOf (front file) p → ⊥
-not_long file p more is = let le : length (front file) ≤ most_source = is.within in absurd (omega (arith, more, le))
+source_long : (file : List ℕ) (came : Result Checked SourceFault) → most_bytes < length file → most_bytes < length (front file)
+    → IsSource (front file) came → IsSource file came
+source_long file (Ok p) lt more is = let le : length (front file) ≤ most_source = is.within in absurd (omega (arith, more, le))
+source_long file (Err kind) lt more is = refused_long file kind lt more is
 
-run_long : (steps : ℕ) (file : List ℕ) (due : Answer) → most_bytes < length file → most_bytes < length (front file)
-    → RunCallsFor steps (front file) due → RunCallsFor steps file due
-run_long steps file due lt more (refuses kind is e) = refuses kind (refused_long file kind lt more is) e
-run_long steps file due lt more (runs p is e) = absurd (not_long file p more is)
+pub program_cut : (file : List ℕ) → Leads (program_in (front file)) (program_in file)
+program_cut file =
+    by_leads fault.Source (IsSource (front file)) (IsSource file) (λ came. by_front (λ f. IsSource f came) file (source_long file came))
 
-pub run_cut : (steps : ℕ) (file : List ℕ) (due : Answer) → RunCallsFor steps (front file) due → RunCallsFor steps file due
-run_cut steps file due h =
-    elim (cases_lt most_bytes (length file)) [
-      | inl lt ↦ run_long steps file due lt (front_long file lt) h
-      | inr le ↦ subst (λ f. RunCallsFor steps f due) (front_short file le) h
-    ]
+-- ---- a profile
 
-list_long : (file : List ℕ) (due : Answer) → most_bytes < length file → most_bytes < length (front file)
-    → ListCallsFor (front file) due → ListCallsFor file due
-list_long file due lt more (list.refuses kind is e) = list.refuses kind (refused_long file kind lt more is) e
-list_long file due lt more (lists p is e) = absurd (not_long file p more is)
+-- a profile that long is refused for its length
+profile_long : (file : List ℕ) (came : Result Device ProfileFault) → most_bytes < length file → most_bytes < length (front file)
+    → IsProfile (front file) came → IsProfile file came
+profile_long file (Ok d) lt more is = let le : length (front file) ≤ most_bytes = is.0 in absurd (omega (arith, more, le))
+profile_long file (Err profile.Long) lt more is = lt
+profile_long file (Err profile.Syntax) lt more is = let le : length (front file) ≤ most_bytes = is.0 in absurd (omega (arith, more, le))
+profile_long file (Err (profile.Missing key)) lt more is = let le : length (front file) ≤ most_bytes = is.0 in absurd (omega (arith, more, le))
+profile_long file (Err profile.Extra) lt more is = let le : length (front file) ≤ most_bytes = is.0 in absurd (omega (arith, more, le))
+profile_long file (Err (profile.Range key)) lt more is = let le : length (front file) ≤ most_bytes = is.0 in absurd (omega (arith, more, le))
 
-pub list_cut : (file : List ℕ) (due : Answer) → ListCallsFor (front file) due → ListCallsFor file due
-list_cut file due h =
-    elim (cases_lt most_bytes (length file)) [
-      | inl lt ↦ list_long file due lt (front_long file lt) h
-      | inr le ↦ subst (λ f. ListCallsFor f due) (front_short file le) h
-    ]
+pub device_cut : (file : List ℕ) → Leads (device_in (front file)) (device_in file)
+device_cut file =
+    by_leads fault.Device (IsProfile (front file)) (IsProfile file) (λ came. by_front (λ f. IsProfile f came) file (profile_long file came))
 
--- ---- a source and a profile
+-- ---- a table
 
--- a source that long has no program, so nothing else is looked at
-fault_of_long : (source bytes : List ℕ) (why : Fault) → most_bytes < length source → most_bytes < length (front source)
-    → IsCheckFault (front source) bytes why → IsCheckFault source bytes why
-fault_of_long source bytes (fault.Source kind) lt more is = refused_long source kind lt more is
-fault_of_long source bytes (fault.Device kind) lt more is = absurd (not_long source is.0.0 more is.0.1)
-fault_of_long source bytes (fault.Window spacing) lt more is = absurd (not_long source is.p more is.setting.program)
-fault_of_long source bytes (fault.Rejected verdict) lt more is = absurd (not_long source is.p more is.setting.program)
+is_less : (m n : ℕ) → m < n → nat_lt m n ≡ true
+is_less m n lt = grind (arith, nat_tests)
 
-check_source_long : (source bytes : List ℕ) (due : Answer) → most_bytes < length source → most_bytes < length (front source)
-    → CheckCallsFor (front source) bytes due → CheckCallsFor source bytes due
-check_source_long source bytes due lt more (check.refuses why is e) = check.refuses why (fault_of_long source bytes why lt more is) e
-check_source_long source bytes due lt more (chooses p chosen is e) = absurd (not_long source p more is.setting.program)
+too_many : (header : Fields) (bytes : List ℕ) → most_bytes < length bytes → table_rows header bytes ≡ Err (0, Long)
+too_many header bytes lt = rw (is_less most_bytes (length bytes) lt) refl
 
-check_source_cut : (source bytes : List ℕ) (due : Answer) → CheckCallsFor (front source) bytes due → CheckCallsFor source bytes due
-check_source_cut source bytes due h =
-    elim (cases_lt most_bytes (length source)) [
-      | inl lt ↦ check_source_long source bytes due lt (front_long source lt) h
-      | inr le ↦ subst (λ f. CheckCallsFor f bytes due) (front_short source le) h
-    ]
+rows_long : (header : Fields) (file : List ℕ) → most_bytes < length file → most_bytes < length (front file) → table_rows header (front file) ≡ table_rows header file
+rows_long header file lt more = too_many header (front file) more ∙ sym (too_many header file lt)
 
--- a profile that long tells no device, and is refused for its length
-no_device : (bytes : List ℕ) (d : Device) → most_bytes < length (front bytes) → IsDeviceOf (front bytes) d → ⊥
-no_device bytes d more is = let le : length (front bytes) ≤ most_bytes = is.0 in absurd (omega (arith, more, le))
+rows_cut : (header : Fields) (file : List ℕ) → table_rows header (front file) ≡ table_rows header file
+rows_cut header file =
+    by_front (λ f. table_rows header (front file) ≡ table_rows header f) file (λ lt more h. rows_long header file lt more) refl
 
-bad_device_long : (bytes : List ℕ) (kind : ProfileFault) → most_bytes < length bytes → most_bytes < length (front bytes)
-    → IsBadDevice (front bytes) kind → IsBadDevice bytes kind
-bad_device_long bytes profile.Long lt more is = lt
-bad_device_long bytes profile.Syntax lt more is = let le : length (front bytes) ≤ most_bytes = is.0 in absurd (omega (arith, more, le))
-bad_device_long bytes (profile.Missing key) lt more is = let le : length (front bytes) ≤ most_bytes = is.0 in absurd (omega (arith, more, le))
-bad_device_long bytes profile.Extra lt more is = let le : length (front bytes) ≤ most_bytes = is.0 in absurd (omega (arith, more, le))
-bad_device_long bytes (profile.Range key) lt more is = let le : length (front bytes) ≤ most_bytes = is.0 in absurd (omega (arith, more, le))
+table_cut : {A : Type 0} (header : Fields) (step : Step A) (start : A) (file : List ℕ) → read_table header step start (front file) ≡ read_table header step start file
+table_cut header step start file = ap (λ rows. then_rows (read_rows step 1 start) rows) (rows_cut header file)
 
-fault_by_long : (source bytes : List ℕ) (why : Fault) → most_bytes < length bytes → most_bytes < length (front bytes)
-    → IsCheckFault source (front bytes) why → IsCheckFault source bytes why
-fault_by_long source bytes (fault.Source kind) lt more is = is
-fault_by_long source bytes (fault.Device kind) lt more is = (is.0, bad_device_long bytes kind lt more is.1)
-fault_by_long source bytes (fault.Window spacing) lt more is = absurd (no_device bytes is.d more is.setting.device)
-fault_by_long source bytes (fault.Rejected verdict) lt more is = absurd (no_device bytes is.d more is.setting.device)
+told_leads : {A : Type 0} (which : Table) (told same : Result A Bad) → told ≡ same → Leads (table_in which told) (table_in which same)
+told_leads which told same e = by_leads (λ bad. fault.Table which bad.0 bad.1) (λ came. told ≡ came) (λ came. same ≡ came) (λ came h. sym e ∙ h)
 
-check_profile_long : (source bytes : List ℕ) (due : Answer) → most_bytes < length bytes → most_bytes < length (front bytes)
-    → CheckCallsFor source (front bytes) due → CheckCallsFor source bytes due
-check_profile_long source bytes due lt more (check.refuses why is e) = check.refuses why (fault_by_long source bytes why lt more is) e
-check_profile_long source bytes due lt more (chooses p chosen is e) = absurd (no_device bytes is.d more is.setting.device)
+pub trace_cut : (file : List ℕ) → Leads (trace_in (front file)) (trace_in file)
+trace_cut file = told_leads _ (trace_of (front file)) (trace_of file) (table_cut _ _ _ file)
 
-check_profile_cut : (source bytes : List ℕ) (due : Answer) → CheckCallsFor source (front bytes) due → CheckCallsFor source bytes due
-check_profile_cut source bytes due h =
-    elim (cases_lt most_bytes (length bytes)) [
-      | inl lt ↦ check_profile_long source bytes due lt (front_long bytes lt) h
-      | inr le ↦ subst (λ f. CheckCallsFor source f due) (front_short bytes le) h
-    ]
+pub arrivals_cut : (p : Checked) (trace : List TraceRow) (file : List ℕ) → Leads (arrivals_in p trace (front file)) (arrivals_in p trace file)
+arrivals_cut p trace file =
+    told_leads _ (arrivals_of p.headers trace (front file)) (arrivals_of p.headers trace file)
+    (ap (λ rows. lists_or_bad (timings_of p.headers) trace rows) (table_cut _ _ _ file))
 
-pub form_cut : (form : Form) (bytes : List (List ℕ)) (due : Answer)
-    → CallsFor form (map (λ file. take (most_bytes + 1) file) bytes) due → CallsFor form bytes due
-form_cut (Run steps) [] due h = h
-form_cut (Run steps) (x ∷ xs) due h = run_cut steps x due h
-form_cut Listing [] due h = h
-form_cut Listing (x ∷ xs) due h = list_cut x due h
-form_cut Check [] due h = h
-form_cut Check (x ∷ []) due h = check_source_cut x [] due h
-form_cut Check (x ∷ y ∷ xs) due h = check_source_cut x y due (check_profile_cut (front x) y due h)
+pub failures_cut : (file : List ℕ) → Leads (failures_in (front file)) (failures_in file)
+failures_cut file = told_leads _ (fails_of (front file)) (fails_of file) (table_cut _ _ _ file)
+
+-- ---- the files of a replay
+
+pub files_cut : (s d t a f : List ℕ) → Leads (files_in (front s) (front d) (front t) (front a) (front f)) (files_in s d t a f)
+files_cut s d t a f =
+    then_leads _ _ _ _ (program_cut s)
+    (λ p. then_leads _ _ _ _ (device_cut d)
+    (λ x. then_leads _ _ _ _ (trace_cut t)
+    (λ v. then_leads _ _ _ _ (arrivals_cut p v a)
+    (λ k. then_leads _ _ _ _ (failures_cut f) (λ m came h. h)))))
+
+-- ---- a form
+
+-- the file at a place among fronts
+front_at : (files : List (List ℕ)) (place : ℕ) → get_or (map front files) place [] ≡ front (get_or files place [])
+front_at [] place = refl
+front_at (file ∷ files) zero = refl
+front_at (file ∷ files) (suc place) = front_at files place
+
+-- a look at the file at a place
+at_place : {A : Type 0} (look : List ℕ → Look A) → ((file : List ℕ) → Leads (look (front file)) (look file)) → (files : List (List ℕ)) (place : ℕ)
+    → Leads (look (get_or (map front files) place [])) (look (get_or files place []))
+at_place look cut files place =
+    subst (λ file. Leads (look file) (look (get_or files place []))) (sym (front_at files place)) (cut (get_or files place []))
+
+looks_cut : (form : Form) (files : List (List ℕ)) → Leads (looks_of form (map front files)) (looks_of form files)
+looks_cut (Run steps) files = then_leads _ _ _ _ (at_place program_in program_cut files 0) (λ p came h. h)
+looks_cut Listing files = then_leads _ _ _ _ (at_place program_in program_cut files 0) (λ p came h. h)
+looks_cut Check files =
+    then_leads _ _ _ _ (at_place program_in program_cut files 0) (λ p. then_leads _ _ _ _ (at_place device_in device_cut files 1) (λ d came h. h))
+
+looks_cut Replay files =
+    then_leads _ _ _ _
+    (then_leads _ _ _ _ (at_place program_in program_cut files 0)
+    (λ p. then_leads _ _ _ _ (at_place device_in device_cut files 1)
+    (λ d. then_leads _ _ _ _ (at_place trace_in trace_cut files 2)
+    (λ t. then_leads _ _ _ _ (at_place (arrivals_in p t) (arrivals_cut p t) files 3)
+    (λ a. then_leads _ _ _ _ (at_place failures_in failures_cut files 4) (λ f came h. h))))))
+    (λ x came h. h)
+
+pub form_cut : (form : Form) (files : List (List ℕ)) (due : Answer)
+    → CallsFor form (map (λ file. take (most_bytes + 1) file) files) due → CallsFor form files due
+form_cut form files due h = comes_to_leads (looks_of form (map front files)) (looks_of form files) (looks_cut form files) due h

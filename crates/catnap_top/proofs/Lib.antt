@@ -1,16 +1,21 @@
 pub mod AskMore
 pub mod Causes
 pub mod Closing
-pub mod Cut
 pub mod Digits
-pub mod Own
 pub mod ReadMore
 pub mod Running
 mod Refusing
-pub mod Stopping
-pub mod Choosing
 pub mod OneFault
 pub mod OneSource
+pub mod Looks
+pub mod Cut
+pub mod Own
+pub mod Programs
 pub mod OneProfile
-pub mod OneRun
-pub mod OneCheck
+pub mod OneChoice
+pub mod OneAnswer
+pub mod Stopping
+pub mod Preparing
+pub mod Living
+pub mod Arriving
+pub mod OneReport

@@ -1,5 +1,5 @@
 -- A source stands for programs that say the same, or is refused for one kind.
-use Rattle.std.proofs.Common.{◌≡◌, ℕ, List, Option, Some, None, ap, sym, ◌∙◌, subst, arith}
+use Rattle.std.proofs.Common.{◌≡◌, ℕ, List, Option, Some, None, Ok, Err, ap, sym, ◌∙◌, subst, arith}
 use Rattle.cat_tokens.specs.declared.token.Token.{Token}
 use Rattle.cat_tokens.specs.declared.lexer.LexFault.{LexFault}
 use Rattle.cat_tokens.specs.Lexemes.{Lexeme, lexemes}
@@ -10,12 +10,14 @@ use Rattle.cat_syntax.specs.Grammar.{IsProgram}
 use Rattle.cat_syntax.specs.Spells.{Spells, IsFault}
 use Rattle.cat_conditions.specs.Pieces.{items_pieces, pieces}
 use Rattle.cat_conditions.specs.Conditions.{IsFault as IsTypeFault, AllHold, all_conditions}
-use Rattle.cat_program.specs.Checked.{Checked}
+use Rattle.cat_program.specs.Checked.{Checked, IsChecked}
 use Rattle.cat_resolve.specs.Program.{IsProgramOf}
 use Rattle.same_program.specs.Same.{IsSame}
 use Rattle.catnap_top.specs.declared.refusal.SourceFault.{SourceFault}
 use Rattle.catnap_top.specs.Source.{IsSourceOf, IsRefused, too_long, no_tokens, no_tree, unchecked}
 use Rattle.catnap_top.specs.Refusals.{kind_of_token_fault}
+use Rattle.catnap_top.specs.Files.{IsSource}
+use Rattle.catnap_top.specs.Alike.{Agree, IsSameProgram}
 use Rattle.catnap_top.proofs.OneFault.{one_syntax, spelled_or_not, one_condition, checked_or_not}
 
 abbrev pub OneLexing : Type 0
@@ -26,6 +28,9 @@ OneTree = (ts : List Lexeme) (a b : List Item) → IsProgram ts a → IsProgram 
 
 abbrev pub SameProgram : Type 0
 SameProgram = (a b : Tree) (p q : Checked) → a.items ≡ b.items → IsProgramOf a p → IsProgramOf b q → IsSame p q
+
+abbrev pub CheckedLaw : Type 0
+CheckedLaw = (tree : Tree) (p : Checked) → AllHold all_conditions (pieces tree) → IsProgramOf tree p → IsChecked p
 
 module _ (lexing : OneLexing) (tree : OneTree) where
   module _ (source : List ℕ) where
@@ -42,11 +47,11 @@ module _ (lexing : OneLexing) (tree : OneTree) where
     same_items ts us a b first second spells other =
         tree (lexemes source us) a b (subst (λ l. IsProgram (lexemes source l) a) (same_tokens ts us first second) spells.derived) other.derived
 
-    pub programs_same : (program : SameProgram) (p q : Checked) → IsSourceOf source p → IsSourceOf source q → IsSame p q
+    programs_same : (program : SameProgram) (p q : Checked) → IsSourceOf source p → IsSourceOf source q → IsSame p q
     programs_same program p q first second =
         program first.tree second.tree p q (same_items first.tokens second.tokens first.tree.items second.tree.items first.lexed second.lexed first.spelled second.spelled) first.program second.program
 
-    pub source_or_not : (p : Checked) (a : SourceFault) → IsSourceOf source p → IsRefused source a → ⊥
+    source_or_not : (p : Checked) (a : SourceFault) → IsSourceOf source p → IsRefused source a → ⊥
     source_or_not p a is (too_long long e) = let short = is.within in omega arith
     source_or_not p a is (no_tokens ts f le lexes e) = whole_or_not is.tokens ts f is.lexed lexes
     source_or_not p a is (no_tree ts f le lexes fault e) =
@@ -55,7 +60,7 @@ module _ (lexing : OneLexing) (tree : OneTree) where
         checked_or_not (pieces t) f a
         (subst (λ l. AllHold all_conditions (items_pieces l)) (same_items is.tokens ts is.tree.items t.items is.lexed lexes is.spelled spells) is.checked) fault e
 
-    pub one_refusal : (a b : SourceFault) → IsRefused source a → IsRefused source b → a ≡ b
+    one_refusal : (a b : SourceFault) → IsRefused source a → IsRefused source b → a ≡ b
     one_refusal a b (too_long long e) (too_long more g) = e ∙ sym g
     one_refusal a b (too_long long e) (no_tokens us g le second q) = absurd (omega arith)
     one_refusal a b (too_long long e) (no_tree us g le second fault q) = absurd (omega arith)
@@ -80,3 +85,13 @@ module _ (lexing : OneLexing) (tree : OneTree) where
     one_refusal a b (unchecked ts t f le first spells fault p) (unchecked us u g most second others other q) =
         one_condition (pieces u) f g a b
         (subst (λ l. IsTypeFault (items_pieces l) f) (same_items ts us t.items u.items first second spells others) fault) other p q
+
+  pub one_source : SameProgram → CheckedLaw → (source : List ℕ) → Agree IsSameProgram (IsSource source) (IsSource source)
+  one_source program checked source (Ok p) (Ok q) first second = record {
+    first = checked first.tree p first.checked first.program;
+    second = checked second.tree q second.checked second.program;
+    same = programs_same source program p q first second;
+  }
+  one_source program checked source (Ok p) (Err g) first second = source_or_not source p g first second
+  one_source program checked source (Err f) (Ok q) first second = source_or_not source q f second first
+  one_source program checked source (Err f) (Err g) first second = one_refusal source f g first second

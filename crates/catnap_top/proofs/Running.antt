@@ -1,9 +1,9 @@
 -- A run, step by step.
 use Rattle.std.proofs.Common.{◌≡◌, ℕ, zero, suc, ◌+◌, ◌-◌, ◌<◌, ◌≤◌, List, [], ◌∷◌, ◌++◌, length, take, drop, Option, Some, None, Result, Ok, Err, refl, sym, ap, ◌∙◌, arith, append_assoc, pos, MatchOption}
 use Rattle.std.proofs.lemmas.List.{append-nil, take-append-drop}
-use Rattle.std.specs.Io.KnownBytes.{append_known}
-use Rattle.cn_base.specs.Writing.{Writes, IsCut}
-use Rattle.cn_base.specs.Sums.{cut_amid, known_on}
+use Rattle.cn_base.specs.Pages.{IsHeld, Adds}
+use Rattle.cn_base.specs.PageSums.{adds_cut, adds_on}
+use Rattle.cn_base.specs.Writing.{IsCut}
 use Rattle.cat_program.specs.declared.syntax.Stepped.{Stepped}
 use Rattle.cat_program.specs.declared.syntax.Stepped.TheVariants.{Quiet, None as NoStep}
 use Rattle.cat_program.specs.Body.{Body, Empty, Plain, When, Choice, Loop, Turns}
@@ -140,24 +140,20 @@ out_split xs i a rest tail e =
     ∙ ap (λ t. t ++ tail) (sym (out_append (take i xs) (drop i xs)))
     ∙ ap (λ ys. out_lines ys ++ tail) (take-append-drop i xs)
 
--- a line was cut
-pub run_cut : (w0 w1 w2 : Option (List ℕ)) (xs : List Stepped) (i : ℕ) (a : Stepped) (rest : List Stepped) → w1 ≡ append_known w0 (out_lines (take i xs))
-    → drop i xs ≡ a ∷ rest → IsCut w1 w2 (out_line a) → IsCut w0 w2 (run_text xs)
-run_cut w0 w1 w2 xs i a rest so_far e cut =
-    cut_amid w0 w1 w2 (out_lines (take i xs)) (out_line a) (out_lines rest ++ steps_line (length xs)) (run_text xs) so_far
-    (out_split xs i a rest (steps_line (length xs)) e) cut
+-- ---- the page
 
--- a text and the last piece of it
-ends_with : {T E : Type 0} (w0 w1 w2 : Option (List ℕ)) (front piece text : List ℕ) (r : Result T E) → w1 ≡ append_known w0 front → front ++ piece ≡ text
-    → Writes w1 w2 piece r → Writes w0 w2 text r
-ends_with w0 w1 w2 front piece text (Ok t) so_far all h = known_on w0 w1 w2 front piece so_far h ∙ ap (λ x. append_known w0 x) all
-ends_with w0 w1 w2 front piece text (Err e) so_far all h =
-    cut_amid w0 w1 w2 front piece [] text so_far (ap (λ t. front ++ t) (append-nil piece) ∙ all) h
+-- a line was cut
+pub run_cut : (w0 w1 w2 : Option (List ℕ)) (h0 h1 : List ℕ) (xs : List Stepped) (i : ℕ) (a : Stepped) (rest : List Stepped)
+    → IsHeld w0 w1 (h0 ++ out_lines (take i xs)) h1 → drop i xs ≡ a ∷ rest → IsCut w1 w2 (h1 ++ out_line a) → IsCut w0 w2 (h0 ++ run_text xs)
+run_cut w0 w1 w2 h0 h1 xs i a rest so_far e cut =
+    adds_cut w0 w1 w2 h0 h1 (out_lines (take i xs)) (out_line a) (out_lines rest ++ steps_line (length xs)) (run_text xs)
+    (out_split xs i a rest (steps_line (length xs)) e) so_far cut
 
 -- all steps that exist were taken
-pub run_ends : {T E : Type 0} (w0 w1 w2 : Option (List ℕ)) (xs : List Stepped) (i : ℕ) (r : Result T E) → w1 ≡ append_known w0 (out_lines (take i xs))
-    → i ≤ length xs → drop i xs ≡ [] → Writes w1 w2 (steps_line i) r → Writes w0 w2 (run_text xs) r
-run_ends w0 w1 w2 xs i r so_far le e h =
+pub run_ends : {T E : Type 0} (w0 w1 w2 : Option (List ℕ)) (h0 h1 h2 : List ℕ) (xs : List Stepped) (i : ℕ) (r : Result T E)
+    → IsHeld w0 w1 (h0 ++ out_lines (take i xs)) h1 → i ≤ length xs → drop i xs ≡ [] → Adds w1 w2 h1 h2 (steps_line i) r
+    → Adds w0 w2 h0 h2 (run_text xs) r
+run_ends w0 w1 w2 h0 h1 h2 xs i r so_far le e h =
     let all = taken_all xs i le e in
-    ends_with w0 w1 w2 (out_lines (take i xs)) (steps_line i) (run_text xs) r so_far
-    (ap (λ ys. out_lines ys ++ steps_line i) all.0 ∙ ap (λ n. out_lines xs ++ steps_line n) (sym all.1)) h
+    adds_on w0 w1 w2 h0 h1 h2 (out_lines (take i xs)) (steps_line i) (run_text xs) r
+    (ap (λ ys. out_lines ys ++ steps_line i) all.0 ∙ ap (λ n. out_lines xs ++ steps_line n) (sym all.1)) so_far h

@@ -1,30 +1,38 @@
--- A source that gives no program is refused by each command.
-use Rattle.std.proofs.Common.{ℕ, List, refl, rules, IfOk}
-use Rattle.catnap_top.specs.declared.stop.Stop.{Stop}
-use Rattle.catnap_top.specs.declared.stop.Stop.TheVariants.{NoMemory, Refused}
-use Rattle.catnap_top.specs.Source.{StopsFor}
-use Rattle.catnap_top.specs.Run.{RunCallsFor, refuses}
-use Rattle.catnap_top.specs.Listed.{ListCallsFor}
-use Rattle.catnap_top.specs.Listed as list
-use Rattle.catnap_top.specs.Check.{CheckStops, CheckCallsFor}
-use Rattle.catnap_top.specs.Check as check
-use Rattle.catnap_top.specs.declared.fault.Fault.TheVariants.{Source, Device, Window, Rejected}
-use Rattle.catnap_top.specs.Reply.{reply_answer, stopped}
+-- What ends a look early.
+use Rattle.std.proofs.Common.{ℕ, List, refl}
+use Rattle.std.specs.Prelude.{Err}
+use Rattle.cat_program.specs.Checked.{Checked}
+use Rattle.cost_bounds.specs.BoundsValue.{BoundsValue}
+use Rattle.cost_bounds.specs.Greatest.{AreBounds}
+use Rattle.degradation.specs.Choice.{IsNoChoice}
+use Rattle.degradation.specs.declared.supply.Supply.{Supply}
+use Rattle.degradation.specs.Placed.{IsLayoutOf}
+use Rattle.device_profile.specs.Answer.{IsAnswer}
+use Rattle.device_profile.specs.declared.fault.DeviceFault.{DeviceFault}
+use Rattle.device_profile.specs.declared.fault.DeviceFault.TheVariants as device
+use Rattle.feasibility.specs.declared.choose.ChooseFault.{ChooseFault}
+use Rattle.feasibility.specs.declared.choose.ChooseFault.TheVariants as choose
+use Rattle.nv_memory.specs.declared.device.Device.{Device}
+use Rattle.nv_memory.specs.declared.layout.Layout.{Layout}
+use Rattle.nv_memory.specs.Layout.{lines_of}
+use Rattle.catnap_top.specs.declared.fault.NoChoice.TheVariants as none
+use Rattle.catnap_top.specs.declared.fault.ProfileFault.TheVariants as profile
+use Rattle.catnap_top.specs.Files.{device_in, stop_of_device}
+use Rattle.catnap_top.specs.Look.{Stops, fails}
+use Rattle.catnap_top.specs.Served.{versions_in, stop_of_choice}
 
-pub run_stopped : (steps : ℕ) (source : List ℕ) (stop : Stop) → StopsFor source stop → IfOk (stopped stop) (λ reply. RunCallsFor steps source (reply_answer reply))
-run_stopped steps source NoMemory h = search rules
-run_stopped steps source (Refused (Source kind)) h = refuses kind h refl
-run_stopped steps source (Refused (Device kind)) h = absurd h
-run_stopped steps source (Refused (Window spacing)) h = absurd h
-run_stopped steps source (Refused (Rejected verdict)) h = absurd h
+pub device_stops : (bytes : List ℕ) (f : DeviceFault) → IsAnswer bytes (Err f) → Stops (device_in bytes) (stop_of_device f)
+device_stops bytes device.DeviceLong h = fails profile.Long h refl
+device_stops bytes device.DeviceSyntax h = fails profile.Syntax h refl
+device_stops bytes (device.DeviceKey key) h = fails (profile.Missing key) h refl
+device_stops bytes device.DeviceExtra h = fails profile.Extra h refl
+device_stops bytes (device.DeviceRange key) h = fails (profile.Range key) h refl
+device_stops bytes device.NoMemory h = tt
 
-pub list_stopped : (source : List ℕ) (stop : Stop) → StopsFor source stop → IfOk (stopped stop) (λ reply. ListCallsFor source (reply_answer reply))
-list_stopped source NoMemory h = search rules
-list_stopped source (Refused (Source kind)) h = list.refuses kind h refl
-list_stopped source (Refused (Device kind)) h = absurd h
-list_stopped source (Refused (Window spacing)) h = absurd h
-list_stopped source (Refused (Rejected verdict)) h = absurd h
-
-pub check_stopped : (source profile : List ℕ) (stop : Stop) → CheckStops source profile stop → IfOk (stopped stop) (λ reply. CheckCallsFor source profile (reply_answer reply))
-check_stopped source profile NoMemory h = search rules
-check_stopped source profile (Refused why) h = check.refuses why h refl
+pub choice_stops : (p : Checked) (d : Device) (supply : Supply) (l : Layout) (b : BoundsValue) (f : ChooseFault) → IsLayoutOf p d l → AreBounds p d (lines_of l) b
+    → IsNoChoice p b d supply f → Stops (versions_in p d supply) (stop_of_choice f)
+choice_stops p d supply l b (choose.WindowTooLong spacing) layout bounds h =
+    fails (none.Window spacing) (record { l = l; b = b; layout = layout; bounds = bounds; choice = h }) refl
+choice_stops p d supply l b (choose.Rejected verdict) layout bounds h =
+    fails (none.Rejected verdict) (record { l = l; b = b; layout = layout; bounds = bounds; choice = h }) refl
+choice_stops p d supply l b choose.NoMemory layout bounds h = tt

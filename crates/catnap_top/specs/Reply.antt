@@ -1,24 +1,29 @@
--- What the words and the files call for. Each command adds a case.
-use Rattle.std.specs.Prelude.{ℕ, List, [], get_or, Result, Ok, Err}
-use Rattle.cn_base.specs.declared.NoMemory.{NoMemory as WantOfMemory}
+-- What the words and the files call for. Each command adds a case to both definitions.
+use Rattle.std.specs.Prelude.{ℕ, List, [], get_or}
 use Rattle.catnap_top.specs.declared.words.Form.{Form}
-use Rattle.catnap_top.specs.declared.words.Form.TheVariants.{Run, List as Listing, Check}
+use Rattle.catnap_top.specs.declared.words.Form.TheVariants.{Run, List as Listing, Check, Replay}
 use Rattle.catnap_top.specs.declared.reply.Reply.{Reply}
 use Rattle.catnap_top.specs.declared.reply.Reply.TheVariants as reply
-use Rattle.catnap_top.specs.declared.stop.Stop.{Stop}
-use Rattle.catnap_top.specs.declared.stop.Stop.TheVariants.{NoMemory, Refused}
 use Rattle.catnap_top.specs.Answer.{Answer, usage, read_fault}
 use Rattle.catnap_top.specs.Faults.{fault_answer}
-use Rattle.catnap_top.specs.Run.{RunCallsFor}
+use Rattle.catnap_top.specs.Look.{Look, ComesTo}
+use Rattle.catnap_top.specs.Run.{running}
 use Rattle.catnap_top.specs.ReadyValue.{ready_answer}
-use Rattle.catnap_top.specs.Listed.{ListCallsFor, listed}
-use Rattle.catnap_top.specs.Check.{CheckCallsFor, checked}
+use Rattle.catnap_top.specs.Listed.{listing, listed}
+use Rattle.catnap_top.specs.Check.{checking, checked}
+use Rattle.catnap_top.specs.Replay.{replaying}
+use Rattle.catnap_top.specs.Replayed.{replayed_answer, IsReadyToTell}
+
+-- the looks of a form at the bytes of its files in order
+abbrev pub looks_of : Form → List (List ℕ) → Look Answer
+looks_of (Run steps) files = running steps (get_or files 0 [])
+looks_of Listing files = listing (get_or files 0 [])
+looks_of Check files = checking (get_or files 0 []) (get_or files 1 [])
+looks_of Replay files = replaying (get_or files 0 []) (get_or files 1 []) (get_or files 2 []) (get_or files 3 []) (get_or files 4 [])
 
 -- the answer to a form over the bytes of its files in order
 abbrev pub CallsFor : Form → List (List ℕ) → Answer → Type 0
-CallsFor (Run steps) files due = RunCallsFor steps (get_or files 0 []) due
-CallsFor Listing files due = ListCallsFor (get_or files 0 []) due
-CallsFor Check files due = CheckCallsFor (get_or files 0 []) (get_or files 1 []) due
+CallsFor form files due = ComesTo (looks_of form files) due
 
 -- the answer that a value of the code stands for
 abbrev pub reply_answer : Reply → Answer
@@ -28,8 +33,9 @@ reply_answer (reply.Refused why) = fault_answer why
 reply_answer (reply.Run ready) = ready_answer ready
 reply_answer (reply.List compiled) = listed compiled.program
 reply_answer (reply.Check selected) = checked selected.program selected.chosen
+reply_answer (reply.Replay replayed) = replayed_answer replayed
 
--- the answer where a command's work ended early
-abbrev pub stopped : Stop → Result Reply WantOfMemory
-stopped (Refused why) = Ok (reply.Refused why)
-stopped NoMemory = Err (record {})
+-- what has to be true for it to be written
+abbrev pub CanBeWritten : Reply → Type 0
+CanBeWritten (reply.Replay replayed) = IsReadyToTell replayed
+CanBeWritten _ = Unit {0}

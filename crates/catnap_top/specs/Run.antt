@@ -1,16 +1,15 @@
 -- `run SRC STEPS`: what the first steps of the tasks put out, or all that exist.
-use Rattle.std.specs.Prelude.{◌≡◌, ℕ, zero, suc, ℤ, List, [], ◌∷◌, ◌++◌, length, Option, Some, None, codes, decimal}
+use Rattle.std.specs.Prelude.{ℕ, zero, suc, ℤ, List, [], ◌∷◌, ◌++◌, length, Option, Some, None, codes, decimal}
 use Rattle.std.specs.Fmt.{signed_decimal}
 use Rattle.cat_program.specs.declared.syntax.Stepped.{Stepped}
 use Rattle.cat_program.specs.declared.syntax.Stepped.TheVariants.{Out}
 use Rattle.cat_program.specs.Body.{Body}
 use Rattle.cat_program.specs.Meaning.{TaskState, TaskStep, task_step_of}
 use Rattle.cat_program.specs.Checked.{Checked, body_at, first_state}
-use Rattle.catnap_top.specs.declared.refusal.SourceFault.{SourceFault}
 use Rattle.catnap_top.specs.declared.status.Status.TheVariants.{Done}
 use Rattle.catnap_top.specs.Answer.{Answer, line}
-use Rattle.catnap_top.specs.Refusals.{refused}
-use Rattle.catnap_top.specs.Source.{IsSourceOf, IsRefused}
+use Rattle.catnap_top.specs.Look.{Look, ◌>>=◌, found}
+use Rattle.catnap_top.specs.Files.{program_in}
 
 -- a step's answer, and what comes after the step
 abbrev pub follow : Option TaskStep → (TaskState → List Stepped) → List Stepped
@@ -45,7 +44,8 @@ run_text taken = out_lines taken ++ steps_line (length taken)
 abbrev pub ran : ℕ → Checked → Answer
 ran steps p = record { status = Done; text = run_text (answers (body_at p) steps (first_state p)) }
 
--- What `run` with so many steps calls for over a source's bytes: the source's refusal, or the run of its program.
-pub data RunCallsFor (steps : ℕ) (source : List ℕ) (due : Answer) : Type 0 where
-  refuses : (kind : SourceFault) → IsRefused source kind → due ≡ refused kind → RunCallsFor steps source due
-  runs : (p : Checked) → IsSourceOf source p → due ≡ ran steps p → RunCallsFor steps source due
+-- `run` with so many steps over a source
+abbrev pub running : ℕ → List ℕ → Look Answer
+running steps source = do
+  p ← program_in source
+  found (ran steps p)

@@ -50,9 +50,3 @@ pub data IsRefused (source : List ℕ) (kind : SourceFault) : Type 0 where
 abbrev pub stop_of : Option SourceFault → Stop
 stop_of (Some kind) = Refused (Source kind)
 stop_of None = NoMemory
-
--- why a source gave no program
-abbrev pub StopsFor : List ℕ → Stop → Type 0
-StopsFor source (Refused (Source kind)) = IsRefused source kind
-StopsFor source (Refused _) = ⊥
-StopsFor source NoMemory = Unit {0}

@@ -2,7 +2,7 @@
 use Rattle.std.specs.Prelude.{ℕ, ◌+◌, ◌-◌, ◌*◌, List, [], ◌∷◌, length, Bool, true, ◌&&◌, nat_le, Option, Some, None, option_map, bytes_eq, codes, map, take, drop, string_bytes, String, if◌then◌else◌}
 use Rattle.std.specs.declared.alloc.Global.{Global}
 use Rattle.catnap_top.specs.declared.words.Form.{Form}
-use Rattle.catnap_top.specs.declared.words.Form.TheVariants.{Run, List as Listing, Check}
+use Rattle.catnap_top.specs.declared.words.Form.TheVariants.{Run, List as Listing, Check, Replay}
 
 -- the bytes of each word
 abbrev pub texts : List (String Global) → List (List ℕ)
@@ -27,12 +27,13 @@ number_of most limit word =
 abbrev pub most_steps : ℕ
 most_steps = 1000000
 
--- `run SRC STEPS`, STEPS having 1 to 7 digits; `list SRC`; `check SRC DEVICE`
+-- `run SRC STEPS`, STEPS having 1 to 7 digits; `list SRC`; `check SRC DEVICE`; `replay SRC DEVICE TRACE ARRIVALS FAILS`
 abbrev pub form_of : List (List ℕ) → Option Form
 form_of (command ∷ source ∷ last ∷ []) =
     if bytes_eq command (codes "run") then option_map (λ n. Run n) (number_of 7 most_steps last)
     else if bytes_eq command (codes "check") then Some Check else None
 form_of (command ∷ source ∷ []) = if bytes_eq command (codes "list") then Some Listing else None
+form_of (command ∷ source ∷ device ∷ trace ∷ arrivals ∷ failures ∷ []) = if bytes_eq command (codes "replay") then Some Replay else None
 form_of _ = None
 
 -- how many words after the first name files
@@ -40,6 +41,7 @@ abbrev pub file_count : Form → ℕ
 file_count (Run _) = 1
 file_count Listing = 1
 file_count Check = 2
+file_count Replay = 5
 
 -- the words of a form that name files, in order: the first is at place 1
 abbrev pub names_of : Form → List (List ℕ) → List (List ℕ)

@@ -3,7 +3,7 @@
 ghost use Rattle.std.specs.Prelude.{◌≡◌, ◌∷◌, [], codes};
 ghost use Rattle.cn_base.specs.Causes.{HasCause};
 ghost use Rattle.cn_base.specs.Writing.{Writes};
-ghost use Rattle.catnap_top.specs.Faults.{fault_answer, profile_line};
+ghost use Rattle.catnap_top.specs.Faults.{fault_answer, no_choice_answer, profile_line, row_kind_name, table_line, table_name, table_status};
 ghost use Rattle.catnap_top.specs.Answer.{line};
 ghost use Rattle.device_profile.specs.Keys.{text_of};
 
@@ -11,6 +11,7 @@ use crate::Status;
 use crate::refusal::SourceFault;
 use cn_base::{Piece, Sink, WriteFail, put, put_line};
 use cn_report::{write_rejected, write_window_fault};
+use cn_tables::RowKind;
 use device_profile::Key;
 use feasibility::Verdict;
 
@@ -29,15 +30,32 @@ pub enum ProfileFault {
     Range(Key),
 }
 
-/// Why there is no answer of a command's own: the first of these that applies, in their order.
+/// The files that are tables.
 #[derive(Clone, Copy, Debug, PartialEq, Eq)]
-pub enum Fault {
-    Source(SourceFault),
-    Device(ProfileFault),
+pub enum Table {
+    Trace,
+    Arrivals,
+    Fails,
+}
+
+/// Why no versions are chosen.
+#[derive(Clone, Copy, Debug, PartialEq, Eq)]
+pub enum NoChoice {
     /// With this spacing demand and supply repeat only after more than 1,000,000 ticks.
     Window(u32),
     /// The events are feasible in no versions of the degrade order; the verdict is that on the last.
     Rejected(Verdict),
+}
+
+/// Why there is no answer of a command's own: the first that a look finds. Each kind of file, and each
+/// test, has one variant.
+#[derive(Clone, Copy, Debug, PartialEq, Eq)]
+pub enum Fault {
+    Source(SourceFault),
+    Device(ProfileFault),
+    /// The first row with a fault, the header being row 0, and what is wrong with it.
+    Table(Table, u32, RowKind),
+    Choice(NoChoice),
 }
 
 fn put_key<K: Sink>(sink: &mut K, kind: &[u8], key: Key) -> Result<(), WriteFail>
@@ -69,6 +87,90 @@ fn put_profile_fault<K: Sink>(sink: &mut K, fault: ProfileFault) -> Result<(), W
     }
 }
 
+impl Table {
+    fn name(self) -> &'static str
+        ensures { result.now ≡ table_name self }
+    {
+        match self {
+            Table::Trace => "trace",
+            Table::Arrivals => "arrivals",
+            Table::Fails => "fails",
+        }
+    }
+
+    fn status(self) -> Status
+        ensures { result ≡ table_status self }
+    {
+        match self {
+            Table::Trace => Status::BadTrace,
+            Table::Arrivals => Status::BadArrivals,
+            Table::Fails => Status::BadFails,
+        }
+    }
+}
+
+fn row_kind_name(kind: RowKind) -> &'static str
+    ensures { result.now ≡ row_kind_name kind }
+{
+    match kind {
+        RowKind::Long => "Long",
+        RowKind::Header => "Header",
+        RowKind::Many => "Many",
+        RowKind::Fields => "Fields",
+        RowKind::Number => "Number",
+        RowKind::Range => "Range",
+        RowKind::Name => "Name",
+        RowKind::Fill => "Fill",
+        RowKind::Order => "Order",
+        RowKind::Total => "Total",
+        RowKind::Few => "Few",
+    }
+}
+
+fn put_row_fault<K: Sink>(
+    sink: &mut K,
+    table: Table,
+    row: u32,
+    kind: RowKind,
+) -> Result<(), WriteFail>
+    ensures text { Writes (K.written sink.old) (K.written sink.new) (table_line table row kind) result }
+    ensures cause { HasCause (K.faults sink.old) (K.faults sink.new) result }
+{
+    put_line(
+        sink,
+        &[
+            Piece::Text(b"fault "),
+            Piece::Text(table.name().as_bytes()),
+            Piece::Text(b" "),
+            Piece::Number(i128::from(row)),
+            Piece::Text(b" "),
+            Piece::Text(row_kind_name(kind).as_bytes()),
+            Piece::Text(b"\n"),
+        ],
+    )
+}
+
+impl NoChoice {
+    fn status(self) -> Status
+        ensures { result ≡ (no_choice_answer self).status }
+    {
+        match self {
+            NoChoice::Window(_) => Status::WindowTooLong,
+            NoChoice::Rejected(_) => Status::Rejected,
+        }
+    }
+
+    fn write<K: Sink>(self, sink: &mut K) -> Result<(), WriteFail>
+        ensures text { Writes (K.written sink.old) (K.written sink.new) (no_choice_answer self).text result }
+        ensures cause { HasCause (K.faults sink.old) (K.faults sink.new) result }
+    {
+        match self {
+            NoChoice::Window(spacing) => write_window_fault(spacing, sink),
+            NoChoice::Rejected(verdict) => write_rejected(verdict, sink),
+        }
+    }
+}
+
 impl Fault {
     pub fn status(self) -> Status
         ensures { result ≡ (fault_answer self).status }
@@ -76,8 +178,8 @@ impl Fault {
         match self {
             Fault::Source(_) => Status::BadSource,
             Fault::Device(_) => Status::BadDevice,
-            Fault::Window(_) => Status::WindowTooLong,
-            Fault::Rejected(_) => Status::Rejected,
+            Fault::Table(table, _, _) => table.status(),
+            Fault::Choice(why) => why.status(),
         }
     }
 
@@ -89,8 +191,8 @@ impl Fault {
         match self {
             Fault::Source(kind) => kind.write(sink),
             Fault::Device(fault) => put_profile_fault(sink, fault),
-            Fault::Window(spacing) => write_window_fault(spacing, sink),
-            Fault::Rejected(verdict) => write_rejected(verdict, sink),
+            Fault::Table(table, row, kind) => put_row_fault(sink, table, row, kind),
+            Fault::Choice(why) => why.write(sink),
         }
     }
 }

@@ -4,21 +4,26 @@
 mod check;
 mod compiled;
 mod fault;
+mod files;
 mod line;
 mod list;
 mod one;
+mod profile;
 mod reading;
 mod ready;
 mod refusal;
+mod replay;
 mod reply;
 mod run;
 mod selected;
 mod source;
 mod status;
 mod stop;
+mod tables;
 #[cfg(test)]
 mod tests;
 mod top;
+mod versions;
 mod words;
 
 pub use one::one_answer;

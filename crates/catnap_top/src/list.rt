@@ -1,12 +1,13 @@
 //! `list SRC`: the listing of a source's code.
 
-ghost use Rattle.std.specs.Prelude.{MatchResult};
 ghost use Rattle.cn_base.specs.Causes.{HasCause};
 ghost use Rattle.cn_base.specs.Writing.{Writes};
-ghost use Rattle.catnap_top.specs.Source.{IsSourceOf, StopsFor};
-ghost use Rattle.catnap_top.specs.Listed.{listed};
+ghost use Rattle.catnap_top.specs.Look.{LooksAs};
+ghost use Rattle.catnap_top.specs.Listed.{listed, listing};
+ghost use Rattle.catnap_top.specs.Reply.{reply_answer};
 
 use crate::compiled::Compiled;
+use crate::reply::Reply;
 use crate::source::program_of;
 use crate::stop::Stop;
 use cat_compile::{compile, listing};
@@ -22,10 +23,10 @@ pub fn write_list<K: Sink>(sink: &mut K, compiled: &Compiled) -> Result<(), Writ
 }
 
 /// Prepares the listing of a source. It takes all memory of the command.
-pub fn prepare_list(alloc: Global, source: &[u8]) -> Result<Compiled, Stop>
-    ensures { MatchResult result (λ c. IsSourceOf source.now c.program) (λ stop. StopsFor source.now stop) }
+pub fn prepare_list(alloc: Global, source: &[u8]) -> Result<Reply, Stop>
+    ensures { LooksAs reply_answer (listing source.now) result }
 {
     let program = program_of(alloc, source)?;
     let code = compile(alloc, &program)?;
-    Ok(Compiled { program, code })
+    Ok(Reply::List(Compiled { program, code }))
 }

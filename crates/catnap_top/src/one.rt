@@ -1,32 +1,27 @@
 //! What words and files call for is one answer: laws of the definitions, with no code.
 
 ghost use Rattle.std.specs.Prelude.{◌≡◌, ℕ, List};
-ghost use Rattle.cat_program.specs.Checked as program;
+ghost use Rattle.catnap_top.specs.Alike.{Agree, IsSameProgram};
 ghost use Rattle.cat_program.specs.Checked.{Checked};
 ghost use Rattle.nv_memory.specs.declared.device.Device.{Device};
-ghost use Rattle.device_profile.specs.Told.{profile_told};
-ghost use Rattle.same_program.specs.Same.{IsSame};
+ghost use Rattle.catnap_top.specs.OneLife.{LivesAreOne};
 ghost use Rattle.catnap_top.specs.declared.words.Form.{Form as TheForm};
-ghost use Rattle.catnap_top.specs.declared.refusal.SourceFault.{SourceFault};
-ghost use Rattle.catnap_top.specs.declared.fault.ProfileFault.{ProfileFault};
+ghost use Rattle.catnap_top.specs.declared.words.Form.TheVariants.{Replay};
 ghost use Rattle.catnap_top.specs.Answer.{Answer};
-ghost use Rattle.catnap_top.specs.Source.{IsSourceOf, IsRefused};
-ghost use Rattle.catnap_top.specs.Run.{RunCallsFor};
-ghost use Rattle.catnap_top.specs.Listed.{ListCallsFor};
-ghost use Rattle.catnap_top.specs.Check.{IsDeviceOf, IsBadDevice, CheckCallsFor};
+ghost use Rattle.catnap_top.specs.Files.{IsSource, IsProfile};
+ghost use Rattle.catnap_top.specs.Served.{Serves};
+ghost use Rattle.degradation.specs.declared.supply.Supply.{Supply};
 ghost use Rattle.catnap_top.specs.Reply.{CallsFor};
 
 use cat_resolve::checked_law;
 use cat_syntax::one_tree;
 use cat_tokens::one_lexing;
+use device_profile::one_device_law;
 use same_program::{one_choice_law, same_code_law, same_program_law, same_steps_law};
 
-/// A source stands for programs that say the same, or is refused for one reason.
+/// A source stands for programs that say the same, or is refused for one kind.
 fn one_source()
-    ensures program { (source : List ℕ) (p q : Checked) → IsSourceOf source p → IsSourceOf source q → IsSame p q }
-    ensures checked { (source : List ℕ) (p : Checked) → IsSourceOf source p → program.IsChecked p }
-    ensures kind { (source : List ℕ) (kind other : SourceFault) → IsRefused source kind → IsRefused source other → kind ≡ other }
-    ensures either { (source : List ℕ) (p : Checked) (kind : SourceFault) → IsSourceOf source p → IsRefused source kind → ⊥ }
+    ensures { (source : List ℕ) → Agree IsSameProgram (IsSource source) (IsSource source) }
 {
     one_lexing();
     one_tree();
@@ -34,41 +29,28 @@ fn one_source()
     same_program_law();
 }
 
-/// A profile tells one device, or is refused for one reason.
+/// A profile tells one device, or is refused for one kind.
 fn one_profile()
-    ensures device { (bytes : List ℕ) (d e : Device) → IsDeviceOf bytes d → IsDeviceOf bytes e → profile_told d ≡ profile_told e }
-    ensures kind { (bytes : List ℕ) (kind other : ProfileFault) → IsBadDevice bytes kind → IsBadDevice bytes other → kind ≡ other }
-    ensures either { (bytes : List ℕ) (d : Device) (kind : ProfileFault) → IsDeviceOf bytes d → IsBadDevice bytes kind → ⊥ }
-{}
-
-fn one_run()
-    ensures { (steps : ℕ) (source : List ℕ) (a b : Answer) → RunCallsFor steps source a → RunCallsFor steps source b → a ≡ b }
+    ensures { (bytes : List ℕ) → Agree (λ d e. d ≡ e) (IsProfile bytes) (IsProfile bytes) }
 {
-    one_source();
-    same_steps_law();
+    one_device_law();
 }
 
-fn one_listing()
-    ensures { (source : List ℕ) (a b : Answer) → ListCallsFor source a → ListCallsFor source b → a ≡ b }
+/// Programs that say the same are served on a device with a supply by the same versions, or not for one reason.
+fn one_choice()
+    ensures { (p q : Checked) (d : Device) (supply : Supply) → IsSameProgram p q → Agree (λ x y. x ≡ y) (Serves p d supply) (Serves q d supply) }
 {
-    one_source();
-    same_code_law();
-}
-
-fn one_check()
-    ensures { (source bytes : List ℕ) (a b : Answer) → CheckCallsFor source bytes a → CheckCallsFor source bytes b → a ≡ b }
-{
-    one_source();
-    one_profile();
     one_choice_law();
 }
 
 /// What a form of words calls for over the bytes of its files is one answer: two implementations that both give what is called
-/// for give the same.
+/// for give the same. Of a replay this is said where its life is one.
 pub fn one_answer()
-    ensures { (form : TheForm) (files : List (List ℕ)) (a b : Answer) → CallsFor form files a → CallsFor form files b → a ≡ b }
+    ensures { (form : TheForm) (files : List (List ℕ)) (a b : Answer) → (form ≡ Replay → LivesAreOne) → CallsFor form files a → CallsFor form files b → a ≡ b }
 {
-    one_run();
-    one_listing();
-    one_check();
+    one_source();
+    one_profile();
+    one_choice();
+    same_steps_law();
+    same_code_law();
 }

@@ -1,6 +1,6 @@
 //! Why a source is refused.
 
-ghost use Rattle.std.specs.Prelude.{◌≡◌, ◌≤◌, length};
+ghost use Rattle.std.specs.Prelude.{◌≡◌};
 ghost use Rattle.cn_base.specs.Causes.{HasCause};
 ghost use Rattle.cn_base.specs.Writing.{Writes};
 ghost use Rattle.catnap_top.specs.Refusals.{kind_name, refused, kind_of_token_fault, kind_of_syntax_fault, kind_of_type_fault};
@@ -41,8 +41,7 @@ pub enum SourceFault {
 
 impl SourceFault {
     fn name(self) -> &'static [u8]
-        ensures name { result.now ≡ kind_name self }
-        ensures short { length result.now ≤ 15 }
+        ensures { result.now ≡ kind_name self }
     {
         match self {
             SourceFault::TooLong => b"TooLong".as_slice(),

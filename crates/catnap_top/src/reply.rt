@@ -2,10 +2,8 @@ ghost use Rattle.std.specs.Prelude.{◌≡◌, IfOk, length, map};
 ghost use Rattle.cn_base.specs.Causes.{HasCause};
 ghost use Rattle.cn_base.specs.Writing.{Writes};
 ghost use Rattle.catnap_top.specs.Words.{file_count};
-ghost use Rattle.catnap_top.specs.Run.{RunCallsFor};
-ghost use Rattle.catnap_top.specs.Listed.{ListCallsFor};
-ghost use Rattle.catnap_top.specs.Check.{CheckCallsFor};
-ghost use Rattle.catnap_top.specs.Reply.{CallsFor, reply_answer, stopped};
+ghost use Rattle.catnap_top.specs.Look.{LooksAs};
+ghost use Rattle.catnap_top.specs.Reply.{CallsFor, CanBeWritten, looks_of, reply_answer};
 
 use crate::Status;
 use crate::check::{prepare_check, write_check};
@@ -14,6 +12,7 @@ use crate::fault::Fault;
 use crate::line::put_read_fault;
 use crate::list::{prepare_list, write_list};
 use crate::ready::Ready;
+use crate::replay::{Replayed, prepare_replay, status_for, write_replay};
 use crate::run::{prepare_run, write_run};
 use crate::selected::Selected;
 use crate::stop::Stop;
@@ -32,6 +31,7 @@ pub enum Reply {
     Run(Ready),
     List(Compiled),
     Check(Selected),
+    Replay(Replayed),
 }
 
 impl Reply {
@@ -43,10 +43,12 @@ impl Reply {
             Reply::ReadFault(_) => Status::ReadFault,
             Reply::Refused(fault) => fault.status(),
             Reply::Run(_) | Reply::List(_) | Reply::Check(_) => Status::Done,
+            Reply::Replay(replayed) => status_for(replayed.end),
         }
     }
 
     pub fn write<K: Sink>(self, sink: &mut K) -> Result<(), WriteFail>
+        requires { CanBeWritten self }
         ensures text { Writes (K.written sink.old) (K.written sink.new) (reply_answer self).text result }
         ensures cause { HasCause (K.faults sink.old) (K.faults sink.new) result }
     {
@@ -57,55 +59,41 @@ impl Reply {
             Reply::Run(ready) => write_run(sink, ready),
             Reply::List(compiled) => write_list(sink, &compiled),
             Reply::Check(selected) => write_check(sink, &selected),
+            Reply::Replay(replayed) => write_replay(sink, replayed),
         }
     }
 }
 
-/// The answer where a command's work ended early.
-fn refuse(stop: Stop) -> Result<Reply, NoMemory>
-    ensures { result ≡ stopped stop }
-{
-    match stop {
-        Stop::Refused(fault) => Ok(Reply::Refused(fault)),
-        Stop::NoMemory => Err(NoMemory),
-    }
-}
-
-fn reply_to_run(alloc: Global, steps: u32, source: &[u8]) -> Result<Reply, NoMemory>
-    ensures { IfOk result (λ reply. RunCallsFor steps source.now (reply_answer reply)) }
-{
-    match prepare_run(alloc, steps, source) {
-        Ok(ready) => Ok(Reply::Run(ready)),
-        Err(stop) => refuse(stop),
-    }
-}
-
-fn reply_to_list(alloc: Global, source: &[u8]) -> Result<Reply, NoMemory>
-    ensures { IfOk result (λ reply. ListCallsFor source.now (reply_answer reply)) }
-{
-    match prepare_list(alloc, source) {
-        Ok(compiled) => Ok(Reply::List(compiled)),
-        Err(stop) => refuse(stop),
-    }
-}
-
-fn reply_to_check(alloc: Global, source: &[u8], profile: &[u8]) -> Result<Reply, NoMemory>
-    ensures { IfOk result (λ reply. CheckCallsFor source.now profile.now (reply_answer reply)) }
-{
-    match prepare_check(alloc, source, profile) {
-        Ok(selected) => Ok(Reply::Check(selected)),
-        Err(stop) => refuse(stop),
-    }
-}
-
-/// The answer to a form over its files, for which it takes all memory.
-pub fn reply_to(alloc: Global, form: Form, files: &[Vec<u8>]) -> Result<Reply, NoMemory>
+/// The answer of a form's own over its files, for which it takes all memory.
+fn prepare(alloc: Global, form: Form, files: &[Vec<u8>]) -> Result<Reply, Stop>
     requires { length files.now ≡ file_count form }
-    ensures { IfOk result (λ reply. CallsFor form (map (λ file. file.items) files.now) (reply_answer reply)) }
+    ensures looks { LooksAs reply_answer (looks_of form (map (λ file. file.items) files.now)) result }
+    ensures written { IfOk result CanBeWritten }
 {
     match form {
-        Form::Run { steps } => reply_to_run(alloc, steps, files[0].as_slice()),
-        Form::List => reply_to_list(alloc, files[0].as_slice()),
-        Form::Check => reply_to_check(alloc, files[0].as_slice(), files[1].as_slice()),
+        Form::Run { steps } => prepare_run(alloc, steps, files[0].as_slice()),
+        Form::List => prepare_list(alloc, files[0].as_slice()),
+        Form::Check => prepare_check(alloc, files[0].as_slice(), files[1].as_slice()),
+        Form::Replay => prepare_replay(
+            alloc,
+            files[0].as_slice(),
+            files[1].as_slice(),
+            files[2].as_slice(),
+            files[3].as_slice(),
+            files[4].as_slice(),
+        ),
+    }
+}
+
+/// The answer to a form over its files: its own, or the refusal of the first look that finds a fault.
+pub fn reply_to(alloc: Global, form: Form, files: &[Vec<u8>]) -> Result<Reply, NoMemory>
+    requires { length files.now ≡ file_count form }
+    ensures answer { IfOk result (λ reply. CallsFor form (map (λ file. file.items) files.now) (reply_answer reply)) }
+    ensures written { IfOk result CanBeWritten }
+{
+    match prepare(alloc, form, files) {
+        Ok(reply) => Ok(reply),
+        Err(Stop::Refused(fault)) => Ok(Reply::Refused(fault)),
+        Err(Stop::NoMemory) => Err(NoMemory),
     }
 }

@@ -1,22 +1,24 @@
 //! `run SRC STEPS`: what the first steps of the source's tasks put out.
 
-ghost use Rattle.std.specs.Prelude.{◌≡◌, true, false, MatchResult};
+ghost use Rattle.std.specs.Prelude.{◌≡◌, true, false};
 ghost use Rattle.cat_program.specs.declared.syntax.Stepped.TheVariants.{None};
 ghost use Rattle.cn_base.specs.Causes.{HasCause};
+ghost use Rattle.cn_base.specs.PageWords.{AddsTo, sink_in, sink_name};
 ghost use Rattle.cn_base.specs.Writing.{Writes};
 ghost use Rattle.cat_program.specs.Checked.{body_at};
 ghost use Rattle.cat_eval.specs.Cursor.{Fits, state_of};
-ghost use Rattle.catnap_top.specs.Run.{RunCallsFor, answers, out_line, run_text};
+ghost use Rattle.catnap_top.specs.Look.{LooksAs};
+ghost use Rattle.catnap_top.specs.Run.{answers, out_line, run_text, running, steps_line};
 ghost use Rattle.catnap_top.specs.ReadyValue.{ready_answer};
-ghost use Rattle.catnap_top.specs.Source.{StopsFor};
+ghost use Rattle.catnap_top.specs.Reply.{reply_answer};
 
-use crate::line::{put_out, put_steps};
 use crate::ready::Ready;
+use crate::reply::Reply;
 use crate::source::program_of;
 use crate::stop::Stop;
 use cat_eval::{State, task_step};
 use cat_program::{Program, Stepped};
-use cn_base::{Sink, WriteFail};
+use cn_base::{Page, Piece, Sink, WriteFail};
 use std::alloc::Global;
 
 /// Whether a step existed.
@@ -30,43 +32,65 @@ fn is_step(stepped: Stepped) -> bool
     }
 }
 
-fn put_step<K: Sink>(sink: &mut K, stepped: Stepped) -> Result<(), WriteFail>
-    ensures text { Writes (K.written sink.old) (K.written sink.new) (out_line stepped) result }
-    ensures cause { HasCause (K.faults sink.old) (K.faults sink.new) result }
+/// Adds the line of a step's output, where there is one.
+fn add_step<K: Sink>(page: &mut Page<'_, K>, stepped: Stepped) -> Result<(), WriteFail>
+    ensures same_sink { sink_name page.new ≡ sink_name page.old }
+    ensures text { AddsTo K.written page.old page.new (out_line stepped) result }
+    ensures cause { HasCause (K.faults (sink_in page.old)) (K.faults (sink_in page.new)) result }
 {
     match stepped {
-        Stepped::Out { channel, value } => put_out(sink, channel, value),
-        _ => Ok(()),
+        Stepped::Out { channel, value } => page.line(&[
+            Piece::Text(b"out "),
+            Piece::Number(i128::from(channel)),
+            Piece::Text(b" "),
+            Piece::Number(i128::from(value)),
+            Piece::Text(b"\n"),
+        ]),
+        _ => page.text(b""),
     }
 }
 
-/// Steps, and writes what is put out as it comes.
-fn write_steps<K: Sink>(
-    sink: &mut K,
+/// Adds how many steps were taken.
+fn add_count<K: Sink>(page: &mut Page<'_, K>, count: u32) -> Result<(), WriteFail>
+    ensures same_sink { sink_name page.new ≡ sink_name page.old }
+    ensures text { AddsTo K.written page.old page.new (steps_line count) result }
+    ensures cause { HasCause (K.faults (sink_in page.old)) (K.faults (sink_in page.new)) result }
+{
+    page.line(&[
+        Piece::Text(b"steps "),
+        Piece::Number(i128::from(count)),
+        Piece::Text(b"\n"),
+    ])
+}
+
+/// Steps, and adds what is put out as it comes.
+fn add_steps<K: Sink>(
+    page: &mut Page<'_, K>,
     steps: u32,
     program: &Program,
     mut state: State,
 ) -> Result<(), WriteFail>
     requires { Fits program.now state }
-    ensures text { Writes (K.written sink.old) (K.written sink.new) (run_text (answers (body_at program.now) steps (state_of program.now state))) result }
-    ensures cause { HasCause (K.faults sink.old) (K.faults sink.new) result }
+    ensures same_sink { sink_name page.new ≡ sink_name page.old }
+    ensures text { AddsTo K.written page.old page.new (run_text (answers (body_at program.now) steps (state_of program.now state))) result }
+    ensures cause { HasCause (K.faults (sink_in page.old)) (K.faults (sink_in page.new)) result }
 {
     let mut taken = 0;
     while taken < steps {
         let stepped = task_step(program, &mut state);
         if !is_step(stepped) {
-            return put_steps(sink, taken);
+            return add_count(page, taken);
         }
-        match put_step(sink, stepped) {
+        match add_step(page, stepped) {
             Ok(()) => {}
             Err(fail) => return Err(fail),
         }
         taken += 1;
     }
-    put_steps(sink, taken)
+    add_count(page, taken)
 }
 
-/// Steps, and writes what is put out as it comes. Takes no memory.
+/// Steps, and writes what is put out, some thousands of bytes at once. Takes no memory.
 pub fn write_run<K: Sink>(sink: &mut K, ready: Ready) -> Result<(), WriteFail>
     ensures text { Writes (K.written sink.old) (K.written sink.new) (ready_answer ready).text result }
     ensures cause { HasCause (K.faults sink.old) (K.faults sink.new) result }
@@ -76,18 +100,22 @@ pub fn write_run<K: Sink>(sink: &mut K, ready: Ready) -> Result<(), WriteFail>
         program,
         state,
     } = ready;
-    write_steps(sink, steps, &program, state)
+    let mut page = Page::on(sink);
+    match add_steps(&mut page, steps, &program, state) {
+        Ok(()) => page.close(),
+        Err(fail) => Err(fail),
+    }
 }
 
 /// Prepares the run of so many steps of a source. It takes all memory of the command.
-pub fn prepare_run(alloc: Global, steps: u32, source: &[u8]) -> Result<Ready, Stop>
-    ensures { MatchResult result (λ ready. RunCallsFor steps source.now (ready_answer ready)) (λ stop. StopsFor source.now stop) }
+pub fn prepare_run(alloc: Global, steps: u32, source: &[u8]) -> Result<Reply, Stop>
+    ensures { LooksAs reply_answer (running steps source.now) result }
 {
     let program = program_of(alloc, source)?;
     let state = State::first(alloc, &program)?;
-    Ok(Ready {
+    Ok(Reply::Run(Ready {
         steps,
         program,
         state,
-    })
+    }))
 }

@@ -1,7 +1,9 @@
 //! From the bytes of a source to its program.
 
-ghost use Rattle.std.specs.Prelude.{◌≡◌, MatchResult};
-ghost use Rattle.catnap_top.specs.Source.{IsSourceOf, StopsFor, stop_of};
+ghost use Rattle.std.specs.Prelude.{◌≡◌};
+ghost use Rattle.catnap_top.specs.Files.{program_in};
+ghost use Rattle.catnap_top.specs.Look.{Looks};
+ghost use Rattle.catnap_top.specs.Source.{stop_of};
 
 use crate::fault::Fault;
 use crate::refusal::{SourceFault, kind_of_syntax_fault, kind_of_token_fault, kind_of_type_fault};
@@ -27,7 +29,7 @@ fn stop(kind: Option<SourceFault>) -> Stop
 
 /// The program of a source, or the first reason for which it is refused.
 pub fn program_of(alloc: Global, source: &[u8]) -> Result<Program, Stop>
-    ensures { MatchResult result (λ p. IsSourceOf source.now p) (λ stop. StopsFor source.now stop) }
+    ensures { Looks (program_in source.now) result }
 {
     if source.len() > MOST_SOURCE {
         return Err(Stop::Refused(Fault::Source(SourceFault::TooLong)));

@@ -1,3 +1,5 @@
+use crate::replay::prepare_replay;
+use crate::stop::Stop;
 use crate::{Status, catnap};
 use cn_base::{File, MemInputs, MemSink, SilentInputs};
 use std::alloc::Global;
@@ -138,6 +140,49 @@ fn lists_code(rt: HostRuntime) -> Result<(), Fail> {
         let got = get(rt.alloc(), words.as_slice(), source.as_bytes(), 200)?;
         assert_eq!(rt; got.status.number(), status, "{source}");
         assert_eq!(rt; got.sink.bytes(), text.as_bytes(), "{source}");
+    }
+    Ok(())
+}
+
+/// The fault line of a replay's files, or nothing where none is refused.
+fn refusal(alloc: Global, files: [&str; 5]) -> Result<MemSink, Fail> {
+    let [source, profile, trace, arrivals, fails] = files;
+    let mut sink = MemSink::new(alloc, 100, 100)?;
+    let readied = prepare_replay(
+        alloc,
+        source.as_bytes(),
+        profile.as_bytes(),
+        trace.as_bytes(),
+        arrivals.as_bytes(),
+        fails.as_bytes(),
+    );
+    if let Err(Stop::Refused(fault)) = readied {
+        let _ = fault.write(&mut sink);
+    }
+    Ok(sink)
+}
+
+#[test]
+fn looks_at_the_files_of_a_replay_in_order(rt: HostRuntime) -> Result<(), Fail> {
+    let profile = "cap = 100\nstart = 0\nresume = 0\nlog = 10\np = 1\nq = 1\nfill = \"00\"\n\
+                   basic = { ticks = 1, bound = 0, actual = 0 }\nmemory = { ticks = 1, bound = 0, actual = 0 }\n\
+                   out = { ticks = 1, bound = 0, actual = 0 }\nwrite = { ticks = 1, bound = 0, actual = 0 }\n\
+                   wake = { ticks = 1, bound = 0, actual = 0 }\n";
+    let trace = "ticks,harvest,extra,sample\n10,1,0,0\n";
+    let arrivals = "tick,event,payload\n";
+    let fails = "tick,fill\n5,00\n";
+    for (files, text) in [
+        ([S1, profile, trace, arrivals, fails], ""),
+        (["$", "", "", "", ""], "fault source BadByte\n"),
+        ([S1, "", "", "", ""], "fault device key cap\n"),
+        ([S1, profile, "", "", ""], "fault trace 0 Header\n"),
+        ([S1, profile, trace, "", ""], "fault arrivals 0 Header\n"),
+        ([S1, profile, trace, "tick,event,payload\n3,tap,1\n", ""], "fault arrivals 1 Name\n"),
+        ([S1, profile, trace, arrivals, ""], "fault fails 0 Header\n"),
+        ([S1, profile, trace, arrivals, "tick,fill\n5,00\n5,00\n"], "fault fails 2 Order\n"),
+    ] {
+        let sink = refusal(rt.alloc(), files)?;
+        assert_eq!(rt; sink.bytes(), text.as_bytes());
     }
     Ok(())
 }

@@ -1,6 +1,6 @@
 ghost use Rattle.std.specs.Prelude.{◌≡◌};
 ghost use Rattle.catnap_top.specs.Words.{texts};
-ghost use Rattle.catnap_top.specs.Reply.{reply_answer};
+ghost use Rattle.catnap_top.specs.Reply.{reply_answer, CanBeWritten};
 ghost use Rattle.catnap_top.specs.Course.{outside, Answers, Ends};
 ghost use Rattle.catnap_top.specs.Clauses.{HasAsked, HasCauses, IsComplete};
 
@@ -13,6 +13,7 @@ use std::alloc::Global;
 
 /// Writes what is to be answered.
 fn finish<K: Sink>(sink: &mut K, reply: Reply) -> Status
+    requires { CanBeWritten reply }
     ensures { Ends (reply_answer reply) (K.written sink.old) (K.written sink.new) (K.faults sink.old) (K.faults sink.new) result }
 {
     let status = reply.status();
@@ -33,6 +34,7 @@ fn respond<I: Inputs, K: Sink>(
         (outside (I.asked inputs.old) (I.faults inputs.old) (K.written sink.old) (K.faults sink.old))
         (outside (I.asked inputs.new) (I.faults inputs.new) (K.written sink.new) (K.faults sink.new))
         result }
+    ensures files { I.files inputs.new ≡ I.files inputs.old }
 {
     let form = match form_in(words) {
         Some(form) => form,
@@ -59,14 +61,18 @@ fn respond<I: Inputs, K: Sink>(
 /// - `list SRC`: the listing of the source's code.
 /// - `check SRC DEVICE`: the versions of least degradation in which the device can serve the source's
 ///   events, with what a job in each takes at most, and the numbers of that choice.
+/// - `replay SRC DEVICE TRACE ARRIVALS FAILS`: the report of the source's life on the device, where the
+///   trace, the arrivals and the failures are as these tables say.
 ///
 /// All memory is taken before the first byte is written.
 ///
 /// Refusals: `Usage` where the words are of no form; `ReadFault` only where the inputs' count of
 /// faults rose; `BadSource` where the source has more than 262,144 bytes, has no tokens or no tree,
 /// or breaks a condition, with the first of these kinds; `BadDevice` where the profile is none, with
-/// its first fault; `WindowTooLong` and `Rejected` where there is no choice. Each of these writes one
-/// fault line, and they are looked at in this order.
+/// its first fault; `BadTrace`, `BadArrivals` and `BadFails` where a table is none, with its first row
+/// that has a fault; `WindowTooLong` and `Rejected` where there is no choice. Each of these writes one
+/// fault line, and they are looked at in this order. `LogFull` where the log of a replay has no place
+/// for a record; the whole report up to then is written.
 /// `WriteFault` only where the sink's count of faults rose, and a proper prefix of the text has been
 /// written then. `NoMemory` before the first byte is written.
 pub fn catnap<I: Inputs, K: Sink>(
@@ -95,6 +101,8 @@ pub fn catnap<I: Inputs, K: Sink>(
         (outside (I.asked inputs.old) (I.faults inputs.old) (K.written sink.old) (K.faults sink.old))
         (outside (I.asked inputs.new) (I.faults inputs.new) (K.written sink.new) (K.faults sink.new))
         result }
+    // No file was changed.
+    ensures files { I.files inputs.new ≡ I.files inputs.old }
 {
     respond(alloc, words, inputs, sink)
 }

@@ -13,6 +13,8 @@ pub enum Form {
     List,
     /// `check SRC DEVICE`
     Check,
+    /// `replay SRC DEVICE TRACE ARRIVALS FAILS`
+    Replay,
 }
 
 impl Form {
@@ -23,6 +25,7 @@ impl Form {
         match self {
             Form::Run { .. } | Form::List => 1,
             Form::Check => 2,
+            Form::Replay => 5,
         }
     }
 }
@@ -64,6 +67,7 @@ pub fn form_in(words: &[String]) -> Option<Form>
         }
         [command, _, _] if command.as_str() == "check" => Some(Form::Check),
         [command, _] if command.as_str() == "list" => Some(Form::List),
+        [command, _, _, _, _, _] if command.as_str() == "replay" => Some(Form::Replay),
         _ => None,
     }
 }

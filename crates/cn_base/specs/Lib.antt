@@ -3,6 +3,9 @@ pub mod Reading
 pub mod Writing
 pub mod Memory
 pub mod Lines
+pub mod Pages
+pub mod PageSums
+pub mod PageWords
 pub mod Sums
 pub mod Nests
 pub mod Versions

@@ -7,6 +7,7 @@ mod inputs;
 mod lines;
 mod list;
 mod memory;
+mod page;
 mod putting;
 mod sink;
 #[cfg(test)]
@@ -19,6 +20,7 @@ pub use inputs::{Inputs, ReadFail};
 pub use lines::{Piece, put_line};
 pub use list::List;
 pub use memory::{AskedRead, File, MemInputs, MemSink, SilentInputs, SilentSink};
+pub use page::Page;
 pub use putting::{put, put_num};
 pub use sink::{Sink, WriteFail};
 use std::alloc::AllocError;

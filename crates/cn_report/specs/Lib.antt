@@ -1,1 +1,10 @@
 pub mod Report
+pub mod Bytes
+pub mod Windows
+pub mod Past
+pub mod Passed
+pub mod Story
+pub mod Outcome
+pub mod Whole
+pub mod Counts
+pub mod Tallied

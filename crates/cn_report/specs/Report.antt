@@ -37,8 +37,15 @@ name_of None = []
 name_of (Some event) = event.name
 
 -- the line of an event by its number
+abbrev pub header_line : List Event → Chosen → ℕ → List ℕ
+header_line headers chosen e = version_line (name_of (slice_get headers e)) (slice_index chosen.versions e) (slice_index_or chosen.loads e no_load)
+
 abbrev pub event_line : Checked → Chosen → ℕ → List ℕ
-event_line p chosen e = version_line (name_of (slice_get p.headers e)) (slice_index chosen.versions e) (slice_index_or chosen.loads e no_load)
+event_line p chosen e = header_line p.headers chosen e
+
+-- the line of each declared event in order, and then the numbers
+abbrev pub choice_text : List Event → Chosen → List ℕ
+choice_text headers chosen = in_turn (header_line headers chosen) (length headers) ++ numbers_line chosen.numbers
 
 -- the line of each event in order, and then the numbers
 abbrev pub chosen_text : Checked → Chosen → List ℕ

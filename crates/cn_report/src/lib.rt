@@ -1,10 +1,25 @@
-//! What is written of a program on a device: its chosen versions and numbers, or why there are none.
+//! What is written of a program on a device: its chosen versions and numbers, or why there are none, and the report of a replay.
 #![tactic(auto)]
 
 mod chosen;
+mod counts;
+mod cursor;
 mod fault;
+mod heads;
+mod log;
+mod report;
+mod shadow;
+mod story;
+mod tallying;
 #[cfg(test)]
 mod tests;
+mod variables;
+mod window;
 
-pub use chosen::write_chosen;
+pub use chosen::{add_chosen, write_chosen};
+pub use cn_scheduler::End;
+pub use counts::Tally;
 pub use fault::{write_rejected, write_window_fault};
+pub use report::write_report;
+pub use shadow::Shadow;
+pub use tallying::tally;

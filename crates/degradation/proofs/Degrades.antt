@@ -17,6 +17,7 @@ use Rattle.feasibility.specs.Chosen.{no_load, version_of, versions_of, loads_of,
 use Rattle.cost_bounds.specs.BoundsValue.{BoundsValue}
 use Rattle.nv_memory.specs.declared.device.Device.{Device}
 use Rattle.degradation.specs.declared.chosen.Chosen.{Chosen}
+use Rattle.degradation.specs.declared.supply.Supply.{Supply}
 use Rattle.degradation.specs.Choice.{load_of, tables_of, HasBounds, IsChoice, Suits}
 
 pub headers_count : (hs : List Event) (es : List (List ℕ)) → EachEventIs hs es → length hs ≡ length es
@@ -203,8 +204,8 @@ degraded ms k (vs ∷ es) zero n is degrades lt =
     rw same degrades.0
 degraded ms k (vs ∷ es) (suc e) n is degrades lt = degraded ms (k + 1) es e n (omega arith) degrades.1 (omega arith)
 
-pub suits : (p : Checked) (b : BoundsValue) (device : Device) (lines : ℕ) (c : Chosen) → IsChecked p → HasBounds p b → IsChoice p b device lines c → Suits p c
-suits p b device lines c checked same choice =
+pub suits : (p : Checked) (b : BoundsValue) (device : Device) (supply : Supply) (lines : ℕ) (c : Chosen) → IsChecked p → HasBounds p b → IsChoice p b device supply lines c → Suits p c
+suits p b device supply lines c checked same choice =
     let count = tables_count p b.jobs checked same in
     let front = take choice.is.k p.mentions in
     let versions : c.versions ≡ versions_of front (length (tables_of p.headers b.jobs)) = choice.versions ∙ choice.is.is.versions in

@@ -1,1 +1,2 @@
 pub mod Degrades
+pub mod Serving

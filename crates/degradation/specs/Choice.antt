@@ -14,6 +14,7 @@ use Rattle.feasibility.specs.declared.choose.ChooseFault.{ChooseFault}
 use Rattle.feasibility.specs.Chosen.{IsChosen}
 use Rattle.feasibility.specs.Outcomes.{IsFault}
 use Rattle.degradation.specs.declared.chosen.Chosen.{Chosen}
+use Rattle.degradation.specs.declared.supply.Supply.{Supply}
 
 -- what an event asks for in a version that takes this at most
 abbrev pub load_of : Event → Job → Load
@@ -25,13 +26,17 @@ tables_of [] jobs = []
 tables_of (event ∷ events) [] = []
 tables_of (event ∷ events) (versions ∷ jobs) = map (load_of event) versions ∷ tables_of events jobs
 
--- what the device gives, and what is needed beside the jobs
-abbrev pub base_of : BoundsValue → Device → Base
-base_of b device =
+-- the supply that a device's profile guarantees
+abbrev pub supply_of : Device → Supply
+supply_of device = record { p = device.p; q = device.q }
+
+-- what the device gives with a supply, and what is needed beside the jobs
+abbrev pub base_of : BoundsValue → Device → Supply → Base
+base_of b device supply =
     record {
       cap = device.cap;
-      p = device.p;
-      q = device.q;
+      p = supply.p;
+      q = supply.q;
       checkpoint = b.checkpoint.units;
       section = b.section.units;
       wake = b.wake.units;
@@ -58,17 +63,17 @@ numbers_of b device lines vector =
 abbrev pub HasBounds : Checked → BoundsValue → Type 0
 HasBounds p b = map length b.jobs ≡ map length p.events
 
--- the versions of least degradation with which the events are feasible, with their loads and numbers
-pub record IsChoice (p : Checked) (b : BoundsValue) (device : Device) (lines : ℕ) (chosen : Chosen) : Type 0 where
+-- the versions of least degradation with which the events are feasible with a supply, with their loads and numbers
+pub record IsChoice (p : Checked) (b : BoundsValue) (device : Device) (supply : Supply) (lines : ℕ) (chosen : Chosen) : Type 0 where
   pub vector : Vector
-  pub is : IsChosen (base_of b device) (tables_of p.headers b.jobs) p.mentions vector
+  pub is : IsChosen (base_of b device supply) (tables_of p.headers b.jobs) p.mentions vector
   pub versions : chosen.versions ≡ vector.versions
   pub loads : chosen.loads ≡ vector.loads
   pub numbers : chosen.numbers ≡ numbers_of b device lines vector
 
 -- why there is no choice
-abbrev pub IsNoChoice : Checked → BoundsValue → Device → ChooseFault → Type 0
-IsNoChoice p b device fault = IsFault (base_of b device) (tables_of p.headers b.jobs) p.mentions fault
+abbrev pub IsNoChoice : Checked → BoundsValue → Device → Supply → ChooseFault → Type 0
+IsNoChoice p b device supply fault = IsFault (base_of b device supply) (tables_of p.headers b.jobs) p.mentions fault
 
 -- one version, which there is, and one load of each event
 pub record Suits (p : Checked) (chosen : Chosen) : Type 0 where

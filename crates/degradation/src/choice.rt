@@ -1,11 +1,12 @@
 //! The versions of least degradation with which a device can serve a program's events.
 
-ghost use Rattle.std.specs.Prelude.{◌≡◌, ◌+◌, ◌≤◌, IfOk, IfErr};
+ghost use Rattle.std.specs.Prelude.{◌≡◌, ◌+◌, ◌<◌, ◌≤◌, IfOk, IfErr};
 ghost use Rattle.demand_core.specs.Demand.{room_use, reserve};
 ghost use Rattle.feasibility.specs.Chosen.{AreTables};
-ghost use Rattle.degradation.specs.Choice.{base_of, level_of, numbers_of, tables_of, HasBounds, IsChoice, IsNoChoice, Suits};
+ghost use Rattle.degradation.specs.Choice.{base_of, level_of, numbers_of, supply_of, tables_of, HasBounds, IsChoice, IsNoChoice, Suits};
 
 use crate::chosen::Chosen;
+use crate::supply::Supply;
 use crate::tables::tables;
 use cat_program::Program;
 use cost_bounds::Bounds;
@@ -14,13 +15,13 @@ use feasibility::{ChooseFault, Vector, choose_vector};
 use nv_memory::Device;
 use std::alloc::Global;
 
-fn base(bounds: &Bounds, device: &Device) -> Base
-    ensures { result ≡ base_of bounds.now device.now }
+fn base(bounds: &Bounds, device: &Device, supply: Supply) -> Base
+    ensures { result ≡ base_of bounds.now device.now supply }
 {
     Base {
         cap: device.cap,
-        p: device.p,
-        q: device.q,
+        p: supply.p,
+        q: supply.q,
         checkpoint: bounds.checkpoint().units,
         section: bounds.section().units,
         wake: bounds.wake().units,
@@ -47,15 +48,45 @@ fn numbers(bounds: &Bounds, device: &Device, lines: u32, vector: &Vector) -> Num
     }
 }
 
-/// The feasible versions of least degradation: with the first k mentions of the degrade order taken up, each event runs in the
-/// version whose number is how often it was mentioned, and k is the least with which the events are feasible on the device.
-/// `bounds` are those of the program's code on this device, where a slot has this many lines.
+/// The feasible versions of least degradation with any supply: with the first k mentions of the degrade order taken up, each event
+/// runs in the version whose number is how often it was mentioned, and k is the least with which the events are feasible on the
+/// device. `bounds` are those of the program's code on this device, where a slot has this many lines.
 ///
 /// # Errors
 ///
 /// `WindowTooLong` comes exactly where demand and supply repeat only after more than 1,000,000 ticks, with the first spacing in
 /// order at which they do. Otherwise `Rejected` comes exactly where the events are feasible in no such versions, with the verdict
 /// on the last.
+pub fn choose_with(
+    alloc: Global,
+    program: &Program,
+    bounds: &Bounds,
+    device: &Device,
+    supply: Supply,
+    lines: u32,
+) -> Result<Chosen, ChooseFault>
+    requires bounds { HasBounds program.now bounds.now }
+    requires some { 0 < supply.p }
+    requires short { supply.p ≤ 1000000 }
+    ensures chosen { IfOk result (IsChoice program.now bounds.now device.now supply lines) }
+    ensures suits { IfOk result (Suits program.now) }
+    ensures refused { IfErr result (IsNoChoice program.now bounds.now device.now supply) }
+{
+    let _checked = program.bodies();
+    let Ok(tables) = tables(alloc, program, bounds) else {
+        return Err(ChooseFault::NoMemory);
+    };
+    let base = base(bounds, device, supply);
+    let vector = choose_vector(alloc, &base, tables.as_slice(), program.mentions())?;
+    let numbers = numbers(bounds, device, lines, &vector);
+    Ok(Chosen {
+        versions: vector.versions,
+        loads: vector.loads,
+        numbers,
+    })
+}
+
+/// The choice with the supply that the device's profile guarantees.
 pub fn choose(
     alloc: Global,
     program: &Program,
@@ -64,20 +95,10 @@ pub fn choose(
     lines: u32,
 ) -> Result<Chosen, ChooseFault>
     requires { HasBounds program.now bounds.now }
-    ensures chosen { IfOk result (IsChoice program.now bounds.now device.now lines) }
+    ensures chosen { IfOk result (IsChoice program.now bounds.now device.now (supply_of device.now) lines) }
     ensures suits { IfOk result (Suits program.now) }
-    ensures refused { IfErr result (IsNoChoice program.now bounds.now device.now) }
+    ensures refused { IfErr result (IsNoChoice program.now bounds.now device.now (supply_of device.now)) }
 {
-    let _checked = program.bodies();
-    let Ok(tables) = tables(alloc, program, bounds) else {
-        return Err(ChooseFault::NoMemory);
-    };
-    let base = base(bounds, device);
-    let vector = choose_vector(alloc, &base, tables.as_slice(), program.mentions())?;
-    let numbers = numbers(bounds, device, lines, &vector);
-    Ok(Chosen {
-        versions: vector.versions,
-        loads: vector.loads,
-        numbers,
-    })
+    let supply = Supply::of(device);
+    choose_with(alloc, program, bounds, device, supply, lines)
 }

@@ -4,7 +4,13 @@
 
 mod choice;
 mod chosen;
+mod law;
+mod placed;
+mod supply;
 mod tables;
 
-pub use choice::choose;
+pub use choice::{choose, choose_with};
 pub use chosen::Chosen;
+pub use law::chosen_law;
+pub use placed::{bounds_of, layout_of};
+pub use supply::Supply;

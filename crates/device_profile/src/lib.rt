@@ -4,6 +4,7 @@
 mod extra;
 mod fault;
 mod keys;
+mod law;
 mod lookups;
 mod parts;
 mod profile;
@@ -12,4 +13,5 @@ mod tests;
 
 pub use fault::DeviceFault;
 pub use keys::Key;
+pub use law::one_device_law;
 pub use profile::device;

@@ -1,10 +1,10 @@
 -- One row after those before it: whether it is kept, and its event's last kept tick then.
-use Rattle.std.proofs.Common.{◌≡◌, ◌≢◌, ℕ, ◌+◌, ◌≤◌, ◌<◌, ◌&&◌, ◌⊎◌, nat_eq, Bool, List, [], ◌∷◌, ◌++◌, drop, take, reverse, get_or, length, map, Option, Some, None, true, false, refl, sym, ap, ◌∙◌, append_assoc, arith, inl, inr, set}
+use Rattle.std.proofs.Common.{◌≡◌, ◌≢◌, ℕ, ◌+◌, ◌≤◌, ◌<◌, ◌⊎◌, nat_eq, List, [], ◌∷◌, ◌++◌, drop, take, reverse, get_or, length, map, Option, Some, None, true, false, refl, sym, ap, ◌∙◌, append_assoc, arith, inl, inr, set}
 use Rattle.std.proofs.lemmas.Bool.Decides.{nat_tests}
 use Rattle.std.proofs.lemmas.List.{drop_all, drop_more, get_or-set_other, get_or-set_same, reverse-append, take_more}
 use Rattle.cat_program.specs.declared.headers.Timing.{Timing}
 use Rattle.event_arrivals.specs.Arrivals.{dropped_of}
-use Rattle.event_arrivals.specs.Kept.{dropped_rows, is_apart, is_kept, kept_rows, last_kept, spacing_at}
+use Rattle.event_arrivals.specs.Kept.{dropped_rows, is_kept, kept_rows, last_kept}
 use Rattle.event_arrivals.specs.declared.arrival.Dropped.{Dropped}
 use Rattle.event_arrivals.specs.declared.row.ArrivalRow.{ArrivalRow}
 

@@ -1,3 +1,4 @@
+pub mod Counted
 pub mod Events
 pub mod KeptLemmas
 pub mod Orders

@@ -1,18 +1,19 @@
 -- The arrivals of each event are spaced, and come before the trace's end.
-use Rattle.std.proofs.Common.{◌≡◌, ◌≢◌, ℕ, zero, suc, ◌+◌, ◌*◌, ◌≤◌, ◌<◌, ◌⊎◌, nat_eq, nat_lt, Bool, true, false, List, [], ◌∷◌, get_or, length, map, filter, Option, Some, None, refl, sym, ap, ◌∙◌, subst, arith, inl, inr}
+use Rattle.std.proofs.Common.{◌≡◌, ℕ, zero, suc, ◌+◌, ◌*◌, ◌≤◌, ◌<◌, nat_eq, nat_lt, Bool, true, false, List, [], ◌∷◌, get_or, length, map, filter, Option, Some, None, refl, sym, ap, ◌∙◌, subst, arith, inl, inr}
 use Rattle.std.proofs.lemmas.Bool.{cases_lt}
 use Rattle.std.proofs.lemmas.Bool.Decides.{nat_tests}
-use Rattle.std.proofs.lemmas.List.{get_or_past}
-use Rattle.std.specs.Prelude.{slice_get, ◌&&◌, if◌then◌else◌}
-use Rattle.cat_program.specs.Declares.{EachEventIs, spacing_of}
+use Rattle.std.proofs.lemmas.List.{get_or_past, length-map}
+use Rattle.std.specs.Prelude.{slice_get, if◌then◌else◌}
+use Rattle.cat_program.specs.Declares.{EachEventIs}
 use Rattle.cat_program.specs.declared.headers.Event.{Event}
 use Rattle.cat_program.specs.declared.headers.Timing.{Timing}
 use Rattle.cat_program.specs.declared.headers.Timing.TheVariants.{Every, Spacing}
 use Rattle.harvest_trace.specs.Timeline.{life_of, sample_at}
 use Rattle.harvest_trace.specs.declared.row.TraceRow.{TraceRow}
-use Rattle.event_arrivals.specs.Arrivals.{Lists, arrival_at, arrival_by, arrival_of, each_own, lists_of, own_rows, periodic, rows_before, timings_of}
-use Rattle.event_arrivals.specs.Kept.{is_apart, is_kept, kept_rows, last_kept, spacing_at, spacing_in}
-use Rattle.event_arrivals.specs.Spaced.{AreSound, AreSpaced, AreWithin, HaveSpacings}
+use Rattle.event_arrivals.specs.Arrivals.{arrival_by, arrival_of, dropped_of, each_own, lists_of, own_rows, periodic, rows_before, timings_of}
+use Rattle.event_arrivals.specs.Rows.{most_rows}
+use Rattle.event_arrivals.specs.Kept.{dropped_rows, is_apart, is_kept, kept_rows, last_kept, spacing_at, spacing_in}
+use Rattle.event_arrivals.specs.Spaced.{AreSound, HaveSpacings}
 use Rattle.event_arrivals.specs.declared.arrival.Arrival.{Arrival}
 use Rattle.event_arrivals.specs.declared.row.ArrivalRow.{ArrivalRow}
 use Rattle.event_arrivals.proofs.Events.{length-each_own}
@@ -171,8 +172,27 @@ within_by (Some (Every period offset)) xs trace k a early is =
     let found = periodic_cases (offset + k * period) trace a is in
     omega (arith, found.0, found.1)
 
-pub sound : (timings : List Timing) (trace : List TraceRow) (rows : List ArrivalRow) → HaveSpacings timings → AreSound (lists_of timings trace rows)
-sound timings trace rows apart =
+-- ---- dropped rows
+
+few_filter : {A : Type 0} (test : A → Bool) (xs : List A) → length (filter test xs) ≤ length xs
+few_filter test [] = omega arith
+few_filter test (x ∷ xs) =
+    elim (test x) as (λ b. length (if b then x ∷ filter test xs else filter test xs) ≤ length (x ∷ xs)) [
+      | true ↦ omega (arith, few_filter test xs)
+      | false ↦ omega (arith, few_filter test xs)
+    ]
+
+few_left : (timings : List Timing) (earlier rows : List ArrivalRow) → length (dropped_rows timings earlier rows) ≤ length rows
+unfolding dropped_rows
+few_left timings earlier [] = omega arith
+few_left timings earlier (row ∷ rows) =
+    elim (is_kept timings earlier row) as (λ b. length (if b then dropped_rows timings (row ∷ earlier) rows else row ∷ dropped_rows timings (row ∷ earlier) rows) ≤ length (row ∷ rows)) [
+      | true ↦ omega (arith, few_left timings (row ∷ earlier) rows)
+      | false ↦ omega (arith, few_left timings (row ∷ earlier) rows)
+    ]
+
+pub sound : (timings : List Timing) (trace : List TraceRow) (rows : List ArrivalRow) → HaveSpacings timings → length rows ≤ most_rows → AreSound (lists_of timings trace rows)
+sound timings trace rows apart few =
     let life = life_of trace in
     let before = rows_before life rows in
     let early = early_kept life timings [] before (early_before life rows) in
@@ -180,4 +200,5 @@ sound timings trace rows apart =
       apart = apart;
       spaced = λ event j n later is. spaced_by (slice_get timings event) (get_or (each_own 0 timings (kept_rows timings [] before)) event []) trace j n later (kept_at timings before event) is;
       within = λ event k a is. within_by (slice_get timings event) (get_or (each_own 0 timings (kept_rows timings [] before)) event []) trace k a (λ there. early_at life timings (kept_rows timings [] before) event k a early there) is;
+      few_dropped = omega (arith, few, few_filter (λ row. nat_lt row.tick life) rows, few_left timings [] before, length-map (dropped_rows timings [] before) dropped_of);
     }

@@ -1,5 +1,5 @@
 -- One row of arrivals after those before it.
-use Rattle.std.proofs.Common.{◌≡◌, ℕ, ◌≤◌, ◌<◌, nat_le, nat_lt, List, [], ◌∷◌, ◌++◌, Ok, Err, true, false, refl, ap, ◌∙◌, sym, arith, Result}
+use Rattle.std.proofs.Common.{◌≡◌, ℕ, ◌≤◌, ◌<◌, nat_le, nat_lt, List, [], ◌∷◌, ◌++◌, Ok, Err, true, false, refl, ap, ◌∙◌, sym, arith}
 use Rattle.std.proofs.lemmas.Bool.Decides.{nat_tests}
 use Rattle.cat_program.specs.declared.headers.Event.{Event}
 use Rattle.cn_tables.specs.Table.{Fields}

@@ -1,4 +1,5 @@
 pub mod Arrivals
+pub mod Counts
 pub mod Fault
 pub mod Kept
 pub mod Next

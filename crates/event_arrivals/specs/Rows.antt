@@ -1,5 +1,5 @@
 -- The rows of a table of arrivals, or its first fault.
-use Rattle.std.specs.Prelude.{ℕ, ℤ, ◌+◌, ◌-◌, ◌==◌, nat_eq, nat_le, nat_lt, if◌then◌else◌, get_or, codes, Bool, true, false, List, [], ◌∷◌, ◌++◌, length, Option, Some, None, Result, Ok, Err}
+use Rattle.std.specs.Prelude.{ℕ, ℤ, ◌+◌, ◌-◌, ◌==◌, nat_eq, nat_le, nat_lt, if◌then◌else◌, get_or, codes, Bool, false, List, [], ◌∷◌, ◌++◌, length, Option, Some, None, Result, Ok, Err}
 use Rattle.std.specs.Cmp.Lexicographic.{pointwise}
 use Rattle.cn_base.specs.declared.TheConstants.{MOST_TICKS}
 use Rattle.cat_program.specs.declared.headers.Event.{Event}

@@ -4,6 +4,7 @@ use Rattle.cat_program.specs.declared.headers.Timing.{Timing}
 use Rattle.harvest_trace.specs.Timeline.{life_of}
 use Rattle.event_arrivals.specs.Arrivals.{Lists, arrival_at}
 use Rattle.event_arrivals.specs.Kept.{spacing_at}
+use Rattle.event_arrivals.specs.Rows.{most_rows}
 use Rattle.event_arrivals.specs.declared.arrival.Arrival.{Arrival}
 
 -- the least time between two arrivals of an event is a tick at least
@@ -25,3 +26,5 @@ pub record AreSound (lists : Lists) : Type 0 where
   pub apart : HaveSpacings lists.timings
   pub spaced : AreSpaced lists
   pub within : AreWithin lists
+  -- no more rows are dropped than a table may have
+  pub few_dropped : length lists.dropped ≤ most_rows

@@ -3,6 +3,7 @@
 #![tactic(auto)]
 
 mod arrival;
+mod laws;
 mod lists;
 mod names;
 mod row;
@@ -10,5 +11,6 @@ mod spacing;
 mod table;
 
 pub use arrival::{Arrival, Dropped};
+pub use laws::{arrivals_are_counted, next_is_lowest};
 pub use lists::Arrivals;
 pub use table::{ArrivalsFault, arrivals};

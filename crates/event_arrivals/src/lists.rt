@@ -2,6 +2,7 @@ ghost use Rattle.std.specs.Prelude.{◌≡◌, ◌<◌, ◌≤◌, length, IfOk}
 ghost use Rattle.cn_base.specs.declared.TheConstants.{MOST_TICKS};
 ghost use Rattle.harvest_trace.specs.Timeline.{life_of};
 ghost use Rattle.event_arrivals.specs.Arrivals.{arrival_at, each_own, lists_of, periodic};
+ghost use Rattle.event_arrivals.specs.Rows.{most_rows};
 ghost use Rattle.event_arrivals.specs.Spaced.{AreSound, HaveSpacings};
 
 use crate::arrival::{Arrival, Dropped};
@@ -59,6 +60,7 @@ impl Arrivals {
     ) -> Result<Arrivals, AllocError>
         requires few { length timings.items ≤ 16 }
         requires apart { HaveSpacings timings.items }
+        requires few_rows { length rows.now ≤ most_rows }
         ensures { IfOk result (λ found. found ≡ lists_of timings.items trace rows.now) }
     {
         let rows = before_end(alloc, rows, trace.life())?;
@@ -72,7 +74,8 @@ impl Arrivals {
         })
     }
 
-    /// What holds of all arrivals: those of an event follow each other by its spacing or period, and come before the trace's end.
+    /// What holds of all arrivals: those of an event follow each other by its spacing or period, and come before the trace's end,
+    /// and at most 100,000 rows are dropped.
     pub fn are_sound(&self)
         ensures sound { AreSound self.now }
         ensures bounded { life_of self.now.trace ≤ MOST_TICKS }

@@ -31,6 +31,7 @@ fn rows_of(
     rows: &mut Rows<'_>,
 ) -> Result<Vec<ArrivalRow>, TableFault>
     ensures ok { IfOk result (λ found. read_rows (spec.arrivals_step program.now.headers) 1 [] rows.old.left ≡ Ok found.items) }
+    ensures few { IfOk result (λ found. length found.items ≤ spec.most_rows) }
     ensures fault { IfErr result (IsTableFault (read_rows (spec.arrivals_step program.now.headers) 1 [] rows.old.left)) }
 {
     let mut kept = Vec::new(alloc);
@@ -82,6 +83,7 @@ fn arrivals_by(
     trace: &Trace,
     rows: &[ArrivalRow],
 ) -> Option<Arrivals>
+    requires { length rows.now ≤ spec.most_rows }
     ensures { IfSome result (λ found. found ≡ lists_of (timings_of program.now.headers) trace.now rows.now) }
 {
     let timings = timings_of(alloc, program).ok()?;

@@ -1,5 +1,7 @@
 -- The rows of a trace, and the row that holds at a tick.
 use Rattle.std.proofs.Common.{◌≡◌, ℕ, zero, suc, ◌+◌, ◌-◌, ◌≤◌, ◌<◌, ◌≢◌, nat_lt, List, [], ◌∷◌, ◌++◌, length, get_or, Some, true, false, refl, sym, ap, ◌∙◌, subst, arith}
+use Rattle.std.specs.Prelude.{pos}
+use Rattle.std.proofs.lemmas.List.{get_or_default}
 use Rattle.std.proofs.lemmas.Bool.Decides.{nat_tests}
 use Rattle.std.specs.List.{All}
 use Rattle.std.specs.List.Sorted.{IsNonDecreasing, IsPartitionPoint}
@@ -125,3 +127,41 @@ row_in rows ends life tick place h most point within =
     let short = rw e at (point.1 place 0 (omega arith) (omega (arith, size))) in
     let z : tick - 0 ≡ tick = omega arith in
     (inside, λ d. rw z at (row_at-place 0 rows place tick d inside (omega arith) begun short))
+
+-- no row ends behind the last
+end-most : (start : ℕ) (rows : List TraceRow) (i d : ℕ) → i < length rows → get_or (ends_from start rows) i d ≤ start + life_of rows
+unfolding ends_from life_of
+end-most start [] i d h = absurd (omega arith)
+end-most start (r ∷ rows) zero d h = omega arith
+end-most start (r ∷ rows) (suc i) d h = let more = end-most (start + r.ticks) rows i d (omega arith) in omega (arith, more)
+
+-- up to its end the row is the same
+pub record IsStretch (rows : List TraceRow) (tick place end : ℕ) : Type 0 where
+  pub inside : place < length rows
+  pub later : tick < end
+  pub within : end ≤ life_of rows
+  pub alike : (t : ℕ) → tick ≤ t → t < end → row_at rows t ≡ row_at rows tick
+
+pub stretch_in : (rows : List TraceRow) (ends : List ℕ) (life tick place : ℕ) → IsTimeline rows ends life → place ≤ length ends
+    → IsPartitionPoint (λ end. end ≤ tick) (λ end. tick < end) ends place → tick < life_of rows → (d : ℕ) → IsStretch rows tick place (get_or ends place d)
+stretch_in rows ends life tick place h most point within d =
+    let e = h.ends_are in
+    let size : length ends ≡ length rows = ap length e ∙ length-ends_from 0 rows in
+    let row = row_in rows ends life tick place h most point within in
+    let inside = row.0 in
+    let begun = rw e at (from_point ends tick place point.0) in
+    let same : (x : ℕ) → get_or ends place x ≡ get_or (ends_from 0 rows) place x = λ x. ap (λ (l : List ℕ). get_or l place x) e in
+    let short : tick < get_or ends place d = point.1 place d (omega arith) (omega (arith, size)) in
+    let no_default : get_or ends place d ≡ get_or ends place 0 = get_or_default ends place d 0 (omega (arith, size)) in
+    record {
+      inside = inside;
+      later = short;
+      within = let last = end-most 0 rows place d inside in omega (arith, last, same d);
+      alike = λ t from until.
+        let z : t - 0 ≡ t = omega arith in
+        let ends_later : t < get_or (ends_from 0 rows) place 0 = omega (arith, no_default, same 0) in
+        (λ (x : TraceRow). (rw z at (row_at-place 0 rows place t x inside (omega arith) (omega (arith, begun)) ends_later)) ∙ sym (row.1 x)) (record { ticks = 0; harvest = 0; extra = 0; sample = pos 0 });
+    }
+
+pub length_of_ends : (rows : List TraceRow) (ends : List ℕ) (life : ℕ) → IsTimeline rows ends life → length ends ≡ length rows
+length_of_ends rows ends life h = ap length h.ends_are ∙ length-ends_from 0 rows

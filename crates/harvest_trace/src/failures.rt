@@ -1,4 +1,4 @@
-ghost use Rattle.std.specs.Prelude.{◌≡◌, ◌≤◌, ◌<◌, length};
+ghost use Rattle.std.specs.Prelude.{◌≡◌, ◌≤◌, ◌<◌, length, IfSome, None};
 ghost use Rattle.std.specs.List.Sorted.{IsNonDecreasingBy, IsPartitionPoint};
 ghost use Rattle.harvest_trace.specs.Failures.{IsRising, first_in};
 
@@ -60,7 +60,8 @@ impl Fails {
 
     /// The first failure from tick `from` on and before tick `upto`.
     pub fn first_in(&self, from: u32, upto: u32) -> Option<Failure>
-        ensures { result ≡ first_in from upto self.now }
+        ensures value { result ≡ first_in from upto self.now }
+        ensures first { IfSome result (λ f. first_in from f.tick self.now ≡ None) }
     {
         let failures = self.failures.as_slice();
         match failures.get(before(failures, from)) {

@@ -1,4 +1,4 @@
-ghost use Rattle.std.specs.Prelude.{◌≡◌, ◌≤◌, ◌<◌, length, IfOk};
+ghost use Rattle.std.specs.Prelude.{◌≡◌, ◌≤◌, ◌<◌, ℕ, length, IfOk};
 ghost use Rattle.std.specs.List.Sorted.{IsNonDecreasing, IsPartitionPoint};
 ghost use Rattle.cn_base.specs.declared.TheConstants.{MOST_TICKS};
 ghost use Rattle.harvest_trace.specs.Timeline.{IsInRange, IsTimeline, extra_at, harvest_at, life_of, row_at, sample_at};
@@ -77,6 +77,18 @@ impl Trace {
     {
         let place = ended_by(self.ends.as_slice(), tick);
         self.rows[place]
+    }
+
+    /// The tick at which the row ends that holds at a tick: up to it nothing changes.
+    pub fn until(&self, tick: u32) -> u32
+        requires { tick < life_of self.now }
+        ensures later { tick < result }
+        ensures within { result ≤ life_of self.now }
+        ensures alike { (t : ℕ) → tick ≤ t → t < result → row_at self.now t ≡ row_at self.now tick }
+    {
+        let _rows = &self.rows;
+        let place = ended_by(self.ends.as_slice(), tick);
+        self.ends[place]
     }
 
     /// The units that are harvested in a tick.

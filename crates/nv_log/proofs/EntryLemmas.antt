@@ -9,7 +9,7 @@ use Rattle.std.proofs.lemmas.List.{take-take, drop-take, drop-drop, drop_more}
 use Rattle.nv_memory.specs.Bytes.{bytes_at}
 use Rattle.std.proofs.lemmas.Nat.{from_le_bytes-to_le_bytes_4}
 use Rattle.nv_memory.specs.declared.layout.Layout.{Layout}
-use Rattle.nv_log.specs.Record.{record_of, record_with, EntryFits}
+use Rattle.nv_log.specs.Record.{record_of, record_with, entry_of, EntryFits}
 
 -- the numbers of two records that are one
 pub record Parts (kind a b c first second third kind' a' b' c' first' second' third' : ℕ) : Type 0 where
@@ -94,3 +94,13 @@ record_of_once l (Ran event version steps start index) (Out channel value) fit f
 record_of_once l (Ran event version steps start index) (Ran event' version' steps' start' index') fit fit' same =
     let p = parts 2 event version 0 steps start index 2 event' version' 0 steps' start' index' fit.0 fit.1 fit.2 fit'.0 fit'.1 fit'.2 same in
     λ i. Ran (p.a_is i) (p.b_is i) (p.first_is i) (p.second_is i) (p.third_is i)
+
+-- an entry is what its spelling stands for
+pub read_again : (l : Layout) (e : LogEntry) → EntryFits e → entry_of l (record_of l e) ≡ e
+read_again l (Out channel value) fit =
+    ap (λ (n : ℕ). Out channel (to_z w32 n)) (from_le_bytes-to_le_bytes_4 (cast_unsigned w32 value) (small value fit)) ∙ ap (λ (z : ℤ). Out channel z) (to_z-of_z fit)
+read_again l (Ran event version steps start index) fit =
+    let first = from_le_bytes-to_le_bytes_4 steps fit.0 in
+    let second = from_le_bytes-to_le_bytes_4 start fit.1 in
+    let third = from_le_bytes-to_le_bytes_4 index fit.2 in
+    λ i. Ran event version (first i) (second i) (third i)

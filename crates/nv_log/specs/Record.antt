@@ -1,6 +1,6 @@
 -- The records of the log.
-use Rattle.std.specs.Prelude.{◌≡◌, ℕ, ◌<◌, List, [], ◌∷◌, ◌++◌, ◌^◌, FitsSigned, Option, Some, IfSome}
-use Rattle.std.specs.Int.{w32, to_le_bytes, cast_unsigned}
+use Rattle.std.specs.Prelude.{◌≡◌, ℕ, ◌<◌, List, [], ◌∷◌, ◌++◌, ◌^◌, ◌==◌, if◌then◌else◌, slice_index, FitsSigned, Option, Some, IfSome}
+use Rattle.std.specs.Int.{w32, to_le_bytes, from_le_bytes, cast_signed, cast_unsigned}
 use Rattle.cat_program.specs.declared.outs.LogEntry.{LogEntry}
 use Rattle.cat_program.specs.declared.outs.LogEntry.TheVariants.{Out, Ran}
 use Rattle.cat_program.specs.Checked.{Checked, HasVersion}
@@ -16,6 +16,17 @@ record_with kind a b c first second third = (kind ∷ a ∷ b ∷ c ∷ []) ++ t
 abbrev pub record_of : Layout → LogEntry → List ℕ
 record_of l (Out channel value) = record_with 1 channel 0 0 (cast_unsigned w32 value) 0 0
 record_of l (Ran event version steps start index) = record_with 2 event version 0 steps start index
+
+-- the number of four bytes from a place of a record on
+abbrev pub number_from : ℕ → List ℕ → ℕ
+number_from at bytes = from_le_bytes w32 (bytes_at at 4 bytes)
+
+-- the entry that the bytes of a record stand for, where they spell one
+abbrev pub entry_of : Layout → List ℕ → LogEntry
+entry_of l bytes =
+    if slice_index bytes 0 == 1
+    then Out (slice_index bytes 1) (cast_signed w32 (number_from 4 bytes))
+    else Ran (slice_index bytes 1) (slice_index bytes 2) (number_from 4 bytes) (number_from 8 bytes) (number_from 12 bytes)
 
 -- the event and the version of an entry exist
 abbrev pub IsOf : Checked → LogEntry → Type 0

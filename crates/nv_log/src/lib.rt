@@ -6,5 +6,5 @@ mod log;
 #[cfg(test)]
 mod tests;
 
-pub use laws::{appends_are_safe, entries_are_spelled_once};
+pub use laws::{appends_are_safe, entries_are_spelled_once, records_are_read_again};
 pub use log::{By, Put, append, entry_at};

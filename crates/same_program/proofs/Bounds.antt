@@ -1,4 +1,4 @@
--- The bounds of programs that say the same, on devices that say the same.
+-- The bounds of programs that say the same, on a device.
 use Rattle.std.proofs.Common.{◌≡◌, ℕ, suc, ◌+◌, ◌*◌, ◌≤◌, List, [], ◌∷◌, length, Option, Some, None, inl, inr, refl, ap, sym, ◌∙◌, subst, arith}
 use Rattle.std.specs.Prelude.{map, slice_get, unwrap_or}
 use Rattle.cat_program.specs.declared.syntax.Class.{Class}
@@ -6,9 +6,6 @@ use Rattle.cat_program.specs.declared.syntax.Class.TheVariants.{Basic, Memory, O
 use Rattle.cat_program.specs.Places.{tasks_size}
 use Rattle.cat_program.specs.Checked.{Checked, bodies_of}
 use Rattle.nv_memory.specs.declared.device.Device.{Device}
-use Rattle.nv_memory.specs.declared.device.Cost.{Cost}
-use Rattle.device_profile.specs.Profile.{CostNumbers, Profile}
-use Rattle.device_profile.specs.Told.{numbers_of, profile_told}
 use Rattle.cat_machine.specs.declared.instr.Instr.{Instr}
 use Rattle.cat_machine.specs.ClassOf.{class_of}
 use Rattle.cat_machine.specs.CodeValue.{CodeValue, EntryAt}
@@ -74,31 +71,6 @@ one_table (x ∷ xs) (y ∷ ys) long each = cc (one_row x y (cc) (each 0), one_t
 one_table [] (y ∷ ys) long each = absurd (cc)
 one_table (x ∷ xs) [] long each = absurd (cc)
 
--- ---- devices that say the same
-
-module _ (d e : Device) (told : profile_told d ≡ profile_told e) where
-  units_same : (class : Class) → units_of d class ≡ units_of e class
-  units_same Basic = ap (λ (t : Profile). t.basic.bound) told
-  units_same Memory = ap (λ (t : Profile). t.memory.bound) told
-  units_same Out = ap (λ (t : Profile). t.out.bound) told
-
-  ticks_same : (class : Class) → ticks_of d class ≡ ticks_of e class
-  ticks_same Basic = ap (λ (t : Profile). t.basic.ticks) told
-  ticks_same Memory = ap (λ (t : Profile). t.memory.ticks) told
-  ticks_same Out = ap (λ (t : Profile). t.out.ticks) told
-
-  times_same : (n : ℕ) (c k : Cost) → numbers_of c ≡ numbers_of k → times n c ≡ times n k
-  times_same n c k same = one_job (times n c) (times n k) (ap (λ (t : CostNumbers). n * t.bound) same) (ap (λ (t : CostNumbers). n * t.ticks) same)
-
-  writes_same : (n : ℕ) → times n d.write ≡ times n e.write
-  writes_same n = times_same n d.write e.write (ap (λ (t : Profile). t.write) told)
-
-  wake_same : times 1 d.wake ≡ times 1 e.wake
-  wake_same = times_same 1 d.wake e.wake (ap (λ (t : Profile). t.wake) told)
-
-  whole_same : (lines : ℕ) (a b : Job) → a ≡ b → whole_job d lines a ≡ whole_job e lines b
-  whole_same lines a b same = cc (writes_same (lines + 2), wake_same)
-
 -- ---- the bounds
 
 section_to : (p q : Checked) → code_of p ≡ code_of q → tasks_size (bodies_of p) ≡ tasks_size (bodies_of q) → (path : List ℕ) → IsSection p path → IsSection q path
@@ -113,30 +85,30 @@ handler_to p q code event version path is =
       is = subst (λ c. HandlerFrom c is.entry [] path) code is.is;
     }
 
-module _ (p q : Checked) (d e : Device) (lines : ℕ) (same : IsSame p q) (told : profile_told d ≡ profile_told e) where
+module _ (p q : Checked) (d : Device) (lines : ℕ) (same : IsSame p q) where
   code : code_of p ≡ code_of q
   code = code_same p q same
 
   greatest_same : (P Q : List ℕ → Type 0) (a b : Job) → ((path : List ℕ) → P path → Q path) → ((path : List ℕ) → Q path → P path)
-      → AreGreatest P p d a → AreGreatest Q q e b → a ≡ b
+      → AreGreatest P p d a → AreGreatest Q q d b → a ≡ b
   greatest_same P Q a b to from first second =
       one_job a b
-      (one_greatest P Q (sum_over (units_of d) p) (sum_over (units_of e) q) a.units b.units to from (sum_same (units_of d) (units_of e) p q code (units_same d e told)) first.units second.units)
-      (one_greatest P Q (sum_over (ticks_of d) p) (sum_over (ticks_of e) q) a.ticks b.ticks to from (sum_same (ticks_of d) (ticks_of e) p q code (ticks_same d e told)) first.ticks second.ticks)
+      (one_greatest P Q (sum_over (units_of d) p) (sum_over (units_of d) q) a.units b.units to from (sum_same (units_of d) (units_of d) p q code (λ class. refl)) first.units second.units)
+      (one_greatest P Q (sum_over (ticks_of d) p) (sum_over (ticks_of d) q) a.ticks b.ticks to from (sum_same (ticks_of d) (ticks_of d) p q code (λ class. refl)) first.ticks second.ticks)
 
-  job_same : (event version : ℕ) (a b : Job) → IsJob p d lines event version a → IsJob q e lines event version b → a ≡ b
+  job_same : (event version : ℕ) (a b : Job) → IsJob p d lines event version a → IsJob q d lines event version b → a ≡ b
   job_same event version a b first second =
       let handler = greatest_same (IsHandler p event version) (IsHandler q event version) first.handler second.handler (handler_to p q code event version) (handler_to q p (sym code) event version) first.greatest second.greatest in
-      first.whole ∙ whole_same d e told lines first.handler second.handler handler ∙ sym second.whole
+      first.whole ∙ ap (whole_job d lines) handler ∙ sym second.whole
 
-  pub one_bounds : (b c : BoundsValue) → AreBounds p d lines b → AreBounds q e lines c → b ≡ c
+  pub one_bounds : (b c : BoundsValue) → AreBounds p d lines b → AreBounds q d lines c → b ≡ c
   one_bounds b c first second =
       let jobs : b.jobs ≡ c.jobs = one_table b.jobs c.jobs (first.versions ∙ ap (map length) same.events ∙ sym second.versions)
       (λ event version x y at at'. job_same event version x y (first.jobs event version x at) (second.jobs event version y at')) in
       let size = same_tasks_size p q same in
       let section : b.section ≡ c.section = greatest_same (IsSection p) (IsSection q) b.section c.section (section_to p q code size) (section_to q p (sym code) (sym size)) first.section second.section in
-      let checkpoint : b.checkpoint ≡ c.checkpoint = first.checkpoint ∙ writes_same d e told (lines + 1) ∙ sym second.checkpoint in
-      let wake : b.wake ≡ c.wake = first.wake ∙ wake_same d e told ∙ sym second.wake in
+      let checkpoint : b.checkpoint ≡ c.checkpoint = first.checkpoint ∙ sym second.checkpoint in
+      let wake : b.wake ≡ c.wake = first.wake ∙ sym second.wake in
       bounds_same b c jobs section checkpoint wake
     where
       bounds_same : (b c : BoundsValue) → b.jobs ≡ c.jobs → b.section ≡ c.section → b.checkpoint ≡ c.checkpoint → b.wake ≡ c.wake → b ≡ c

@@ -10,7 +10,6 @@ use Rattle.cat_program.specs.declared.headers.Event.{Event}
 use Rattle.cat_program.specs.Declares.{spacing_of, EachEventIs, EachDegrades}
 use Rattle.cat_program.specs.Checked.{Checked, IsChecked}
 use Rattle.nv_memory.specs.declared.device.Device.{Device}
-use Rattle.device_profile.specs.Profile.{Profile}
 use Rattle.cost_bounds.specs.declared.job.Job.{Job}
 use Rattle.cost_bounds.specs.BoundsValue.{BoundsValue, longest_of}
 use Rattle.demand_core.specs.declared.Load.{Load}
@@ -25,6 +24,7 @@ use Rattle.feasibility.specs.Chosen.{no_load, version_of, versions_of, loads_of,
 use Rattle.feasibility.specs.Outcomes.{IsFault}
 use Rattle.feasibility.specs.Verdicts.{IsVerdict}
 use Rattle.degradation.specs.declared.chosen.Chosen.{Chosen}
+use Rattle.degradation.specs.declared.supply.Supply.{Supply}
 use Rattle.degradation.specs.Choice.{load_of, tables_of, base_of, numbers_of, HasBounds, IsChoice, IsNoChoice}
 use Rattle.same_program.specs.Setting.{AreSettings}
 use Rattle.same_program.proofs.Bounds.{one_bounds}
@@ -187,47 +187,43 @@ chosen_same x y a b c =
     ∙ ap (λ v. record { versions = y.versions; loads = v; numbers = x.numbers }) b
     ∙ ap (λ v. record { versions = y.versions; loads = y.loads; numbers = v }) c
 
-module _ (p q : Checked) (d e : Device) (lines : ℕ) (b c : BoundsValue) (are : AreSettings p q d e lines b c) where
+module _ (p q : Checked) (d : Device) (supply : Supply) (lines : ℕ) (b c : BoundsValue) (are : AreSettings p q d lines b c) where
   bounds : b ≡ c
-  bounds = one_bounds p q d e lines are.same are.told b c are.first are.second
+  bounds = one_bounds p q d lines are.same b c are.first are.second
 
-  base_same : base_of b d ≡ base_of c e
-  base_same =
-      ap (λ (x : BoundsValue). base_of x d) bounds
-      ∙ ap (λ (t : Profile). record { cap = t.cap; p = t.p; q = t.q; checkpoint = c.checkpoint.units; section = c.section.units; wake = c.wake.units; longest = longest_of c }) are.told
+  base_same : base_of b d supply ≡ base_of c d supply
+  base_same = ap (λ (x : BoundsValue). base_of x d supply) bounds
 
   tables_same : tables_of p.headers b.jobs ≡ tables_of q.headers c.jobs
   tables_same = ap (λ (x : BoundsValue). tables_of p.headers x.jobs) bounds ∙ ap (λ h. tables_of h c.jobs) are.same.headers
 
-  numbers_same : (v : Vector) → numbers_of b d lines v ≡ numbers_of c e lines v
-  numbers_same v =
-      ap (λ (x : BoundsValue). numbers_of x d lines v) bounds
-      ∙ ap (λ (t : Profile). record { lines = lines; checkpoint = c.checkpoint.units; section = c.section.units; reserve = v.reserve; level = max (v.reserve + c.checkpoint.units + c.section.units + c.wake.units) t.resume; window = v.window }) are.told
+  numbers_same : (v : Vector) → numbers_of b d lines v ≡ numbers_of c d lines v
+  numbers_same v = ap (λ (x : BoundsValue). numbers_of x d lines v) bounds
 
   rows : AreRows (tables_of p.headers b.jobs) p.mentions
   rows = are_rows p b are.checked are.first.versions
 
   -- what the other program's is, is this one's
-  back : (P : Base → List (List Load) → List ℕ → Type 0) → P (base_of c e) (tables_of q.headers c.jobs) q.mentions → P (base_of b d) (tables_of p.headers b.jobs) p.mentions
+  back : (P : Base → List (List Load) → List ℕ → Type 0) → P (base_of c d supply) (tables_of q.headers c.jobs) q.mentions → P (base_of b d supply) (tables_of p.headers b.jobs) p.mentions
   back P h =
       subst (λ x. P x (tables_of p.headers b.jobs) p.mentions) (sym base_same)
-      (subst (λ t. P (base_of c e) t p.mentions) (sym tables_same)
-      (subst (λ m. P (base_of c e) (tables_of q.headers c.jobs) m) (sym are.same.mentions) h))
+      (subst (λ t. P (base_of c d supply) t p.mentions) (sym tables_same)
+      (subst (λ m. P (base_of c d supply) (tables_of q.headers c.jobs) m) (sym are.same.mentions) h))
 
-  pub one_choice : (x y : Chosen) → IsChoice p b d lines x → IsChoice q c e lines y → x ≡ y
+  pub one_choice : (x y : Chosen) → IsChoice p b d supply lines x → IsChoice q c d supply lines y → x ≡ y
   one_choice x y first second =
       let vector : first.vector ≡ second.vector =
-      one_vector (tables_of p.headers b.jobs) p.mentions rows (base_of b d) first.vector second.vector first.is
+      one_vector (tables_of p.headers b.jobs) p.mentions rows (base_of b d supply) first.vector second.vector first.is
       (back (λ base tables order. IsChosen base tables order second.vector) second.is) in
       chosen_same x y
       (first.versions ∙ ap (λ (v : Vector). v.versions) vector ∙ sym second.versions)
       (first.loads ∙ ap (λ (v : Vector). v.loads) vector ∙ sym second.loads)
-      (first.numbers ∙ numbers_same first.vector ∙ ap (numbers_of c e lines) vector ∙ sym second.numbers)
+      (first.numbers ∙ numbers_same first.vector ∙ ap (numbers_of c d lines) vector ∙ sym second.numbers)
 
-  pub one_reason : (f g : ChooseFault) → IsNoChoice p b d f → IsNoChoice q c e g → f ≢ NoMemory → g ≢ NoMemory → f ≡ g
+  pub one_reason : (f g : ChooseFault) → IsNoChoice p b d supply f → IsNoChoice q c d supply g → f ≢ NoMemory → g ≢ NoMemory → f ≡ g
   one_reason f g first second =
-      one_fault (tables_of p.headers b.jobs) p.mentions rows (base_of b d) f g first (back (λ base tables order. IsFault base tables order g) second)
+      one_fault (tables_of p.headers b.jobs) p.mentions rows (base_of b d supply) f g first (back (λ base tables order. IsFault base tables order g) second)
 
-  pub no_reason : (x : Chosen) (f : ChooseFault) → IsChoice p b d lines x → IsNoChoice q c e f → f ≡ NoMemory
+  pub no_reason : (x : Chosen) (f : ChooseFault) → IsChoice p b d supply lines x → IsNoChoice q c d supply f → f ≡ NoMemory
   no_reason x f first second =
-      no_fault (tables_of p.headers b.jobs) p.mentions rows (base_of b d) first.vector f first.is (back (λ base tables order. IsFault base tables order f) second)
+      no_fault (tables_of p.headers b.jobs) p.mentions rows (base_of b d supply) first.vector f first.is (back (λ base tables order. IsFault base tables order f) second)

@@ -6,11 +6,12 @@ ghost use Rattle.cat_resolve.specs.Program.{IsProgramOf};
 ghost use Rattle.cat_machine.specs.Code.{code_of};
 ghost use Rattle.cat_compile.specs.Listing.{listing_text};
 ghost use Rattle.same_program.specs.Same.{IsSame};
-ghost use Rattle.nv_memory.specs.declared.device.Device.{Device as Profile};
+ghost use Rattle.nv_memory.specs.declared.device.Device.{Device};
 ghost use Rattle.cost_bounds.specs.BoundsValue.{BoundsValue};
 ghost use Rattle.feasibility.specs.declared.choose.ChooseFault.{ChooseFault};
 ghost use Rattle.feasibility.specs.declared.choose.ChooseFault.TheVariants.{NoMemory};
 ghost use Rattle.degradation.specs.declared.chosen.Chosen.{Chosen};
+ghost use Rattle.degradation.specs.declared.supply.Supply.{Supply};
 ghost use Rattle.degradation.specs.Choice.{IsChoice, IsNoChoice};
 ghost use Rattle.same_program.specs.Setting.{AreSettings};
 ghost use Rattle.same_program.specs.Alike.{StateIsLike, StepIsLike};
@@ -33,17 +34,17 @@ pub fn same_code_law()
     ensures listing { (p q : Checked) → IsSame p q → listing_text p (code_of p) ≡ listing_text q (code_of q) }
 {}
 
-/// The bounds of programs that say the same are the same, on devices that say the same.
+/// The bounds of programs that say the same are the same on a device.
 pub fn one_bounds_law()
-    ensures { (p q : Checked) (d e : Profile) (lines : ℕ) (b c : BoundsValue) → AreSettings p q d e lines b c → b ≡ c }
+    ensures { (p q : Checked) (d : Device) (lines : ℕ) (b c : BoundsValue) → AreSettings p q d lines b c → b ≡ c }
 {}
 
-/// There is one choice of versions, or one reason why there is none; want of memory is no reason.
+/// With any supply there is one choice of versions, or one reason why there is none; want of memory is no reason.
 pub fn one_choice_law()
-    ensures choice { (p q : Checked) (d e : Profile) (lines : ℕ) (b c : BoundsValue) → AreSettings p q d e lines b c →
-        (x y : Chosen) → IsChoice p b d lines x → IsChoice q c e lines y → x ≡ y }
-    ensures reason { (p q : Checked) (d e : Profile) (lines : ℕ) (b c : BoundsValue) → AreSettings p q d e lines b c →
-        (f g : ChooseFault) → IsNoChoice p b d f → IsNoChoice q c e g → f ≢ NoMemory → g ≢ NoMemory → f ≡ g }
-    ensures either { (p q : Checked) (d e : Profile) (lines : ℕ) (b c : BoundsValue) → AreSettings p q d e lines b c →
-        (x : Chosen) (f : ChooseFault) → IsChoice p b d lines x → IsNoChoice q c e f → f ≡ NoMemory }
+    ensures choice { (p q : Checked) (d : Device) (supply : Supply) (lines : ℕ) (b c : BoundsValue) → AreSettings p q d lines b c →
+        (x y : Chosen) → IsChoice p b d supply lines x → IsChoice q c d supply lines y → x ≡ y }
+    ensures reason { (p q : Checked) (d : Device) (supply : Supply) (lines : ℕ) (b c : BoundsValue) → AreSettings p q d lines b c →
+        (f g : ChooseFault) → IsNoChoice p b d supply f → IsNoChoice q c d supply g → f ≢ NoMemory → g ≢ NoMemory → f ≡ g }
+    ensures either { (p q : Checked) (d : Device) (supply : Supply) (lines : ℕ) (b c : BoundsValue) → AreSettings p q d lines b c →
+        (x : Chosen) (f : ChooseFault) → IsChoice p b d supply lines x → IsNoChoice q c d supply f → f ≡ NoMemory }
 {}

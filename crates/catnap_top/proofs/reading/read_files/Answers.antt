@@ -12,8 +12,8 @@ use Rattle.std.proofs.lemmas.List.{length-map}
 use Rattle.catnap_top.proofs.AskMore.{asked_more, asked_in_vain, asked_of_texts, texts_more}
 use Rattle.catnap_top.proofs.reading.read_files.Goals as goal
 
-pub returns-then-is_err : goal.returns-then-is_err
-returns-then-is_err g c = (
+pub returns-then-is_err-clause-reads : goal.returns-then-is_err-clause-reads
+returns-then-is_err-clause-reads g c = (
   c.loop-name.name-index + 1,
   simp length-map (omega arith),
   asked_of_texts _ _ c.args.names.now (c.loop-name.name-index + 1)
@@ -22,8 +22,8 @@ returns-then-is_err g c = (
   c.in-Ok-read.ensures.cause.kept (λ x. cc) ∙ c.loop-name.invariant.2,
 )
 
-pub returns-in-Err-Failed : goal.returns-in-Err-Failed
-returns-in-Err-Failed g c =
+pub returns-in-Err-Failed-clause-reads : goal.returns-in-Err-Failed-clause-reads
+returns-in-Err-Failed-clause-reads g c =
     let asked = rw c.in-Err-Failed.field-0-is at c.in-Err-Failed.ensures.asked in
     let fell : IsErrOf (Err c.in-Err-Failed.field-0) Failed = cc in (
       simp length-map (omega arith),
@@ -35,8 +35,8 @@ returns-in-Err-Failed g c =
       subst (λ n. Rose n (g.I.Inputs.faults c.read.new.self)) c.loop-name.invariant.2 (c.in-Err-Failed.ensures.cause.failed fell),
     )
 
-pub returns-in-Err-NoMemory : goal.returns-in-Err-NoMemory
-returns-in-Err-NoMemory g c =
+pub returns-in-Err-NoMemory-clause-reads : goal.returns-in-Err-NoMemory-clause-reads
+returns-in-Err-NoMemory-clause-reads g c =
     let asked = rw c.in-Err-NoMemory.field-0-is at c.in-Err-NoMemory.ensures.asked in (
       c.loop-name.name-index,
       simp length-map (omega arith),

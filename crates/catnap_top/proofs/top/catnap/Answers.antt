@@ -8,4 +8,5 @@ returns g c =
       asked = asked _ _ _ _ _ c.respond.ensures.answer;
       causes = causes _ _ _ _ _ c.respond.ensures.answer;
       complete = complete _ _ _ _ _ c.respond.ensures.answer;
+      files = c.respond.ensures.files;
     }

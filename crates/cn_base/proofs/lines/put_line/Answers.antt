@@ -1,8 +1,11 @@
-use Rattle.cn_base.proofs.LineSums.{line_grown}
+use Rattle.std.proofs.Common.{ap, rules}
+use Rattle.cn_base.specs.PageSums.{page_closes}
+use Rattle.cn_base.specs.PageWords.{held_in}
 use Rattle.cn_base.proofs.lines.put_line.Goals as goal
 
-pub loop-piece-preserved : goal.loop-piece-preserved
-loop-piece-preserved g c = (
-  line_grown c.args.pieces.now c.loop-piece.piece-index _ _ _ (c.gather.ensures c.if-not-gather.false) c.loop-piece.invariant.0 c.loop-piece-test.true,
-  c.loop-piece.invariant.1,
-)
+pub returns-in-Ok-clause-text : goal.returns-in-Ok-clause-text
+returns-in-Ok-clause-text g c =
+    let closed =
+    page_closes _ _ _ _ (held_in c.on-page.result) (held_in c.line.new.self) _ c.close.result
+    (ap (λ s. g.K.Sink.written s) c.on-page.ensures.sink) c.on-page.ensures.held c.in-Ok.ensures.text c.close.ensures.text in
+    search (rules, closed)

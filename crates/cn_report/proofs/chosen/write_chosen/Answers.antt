@@ -1,5 +1,11 @@
-use Rattle.cn_report.proofs.Lines.{writes_behind}
+use Rattle.std.proofs.Common.{ap, rules}
+use Rattle.cn_base.specs.PageSums.{page_closes}
+use Rattle.cn_base.specs.PageWords.{held_in}
 use Rattle.cn_report.proofs.chosen.write_chosen.Goals as goal
 
-pub returns-clause-text : goal.returns-clause-text
-returns-clause-text g c = writes_behind c.put_numbers.result _ _ _ _ _ c.in_ok-put_versions.ensures.text c.put_numbers.ensures.text
+pub returns-in-Ok-clause-text : goal.returns-in-Ok-clause-text
+returns-in-Ok-clause-text g c =
+    let closed =
+    page_closes _ _ _ _ (held_in c.on-page.result) (held_in c.add_chosen.new.page) _ c.close.result
+    (ap (λ s. g.K.Sink.written s) c.on-page.ensures.sink) c.on-page.ensures.held c.in-Ok.ensures.text c.close.ensures.text in
+    search (rules, closed)

@@ -1,4 +1,4 @@
-use Rattle.std.proofs.Common.{◌≡◌, ◌∙◌, sym, append-nil}
+use Rattle.std.proofs.Common.{◌∙◌, sym, append-nil}
 use Rattle.event_arrivals.proofs.Events.{each_own-end, each_own-more}
 use Rattle.event_arrivals.proofs.lists.each_own.Goals as goal
 

@@ -1,4 +1,4 @@
-use Rattle.std.proofs.Common.{◌≡◌, ◌∙◌, ◌<◌, ◌≤◌, ◌+◌, ℕ, Bool, List, Option, Some, None, refl, ap, sym, get_or, set, length, reverse, take, pos, true, false, arith, append-nil, length-set}
+use Rattle.std.proofs.Common.{◌≡◌, ◌∙◌, ◌<◌, None, refl, ap, sym, get_or, length, reverse, take, pos, true, false, arith, append-nil, length-set}
 use Rattle.std.proofs.lemmas.List.{get_or-replicate}
 use Rattle.event_arrivals.specs.Kept.{is_apart, is_kept, last_kept, spacing_at}
 use Rattle.event_arrivals.specs.declared.row.ArrivalRow.{ArrivalRow}

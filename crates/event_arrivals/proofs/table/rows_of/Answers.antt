@@ -1,4 +1,4 @@
-use Rattle.std.proofs.Common.{◌≡◌, ◌∙◌, ◌≤◌, ◌<◌, [], List, ℕ, Ok, Err, sym, true, arith, rules, refl}
+use Rattle.std.proofs.Common.{◌≡◌, ◌∙◌, [], ◌∷◌, length-append, true, arith, rules, refl}
 use Rattle.std.specs.Result.{is_ok}
 use Rattle.cn_tables.specs.declared.fault.RowKind.TheVariants as kind
 use Rattle.cn_tables.proofs.TableRows.{read_rows-bad, read_rows-end, read_rows-more}
@@ -8,7 +8,7 @@ use Rattle.event_arrivals.proofs.table.rows_of.Goals as goal
 
 pub rows-init : goal.rows-init
 unfolding last_tick
-rows-init c = rw c.new-kept.ensures.items (record { going = refl; numbered = omega arith; last_is = refl })
+rows-init c = rw c.new-kept.ensures.items (record { going = refl; numbered = omega arith; counted = refl; last_is = refl })
 
 pub returns-then-not-found-clause-ok : goal.returns-then-not-found-clause-ok
 returns-then-not-found-clause-ok c =
@@ -46,5 +46,6 @@ rows-preserved c =
     rw items (record {
       going = c.rows.invariant.going ∙ read_rows-more (arrivals_step headers) c.rows.number c.rows.kept.items _ c.rows.rows.left c.next_row.new.self.current c.next_row.new.self.left more next;
       numbered = omega arith;
+      counted = omega (arith, c.rows.invariant.counted, length-append c.rows.kept.items (row ∷ []));
       last_is = last_tick-last c.rows.kept.items row;
     })

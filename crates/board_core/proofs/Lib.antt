@@ -1,0 +1,9 @@
+pub mod Fates
+pub mod Passing
+pub mod Outlooks
+pub mod ModelLemmas
+pub mod Sleeping
+pub mod RecordLemmas
+pub mod MarkLemmas
+pub mod Ruled
+pub mod Same

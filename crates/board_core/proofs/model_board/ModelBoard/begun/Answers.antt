@@ -1,0 +1,24 @@
+use Rattle.std.proofs.Common.{◌≡◌, ◌<◌, ℕ, List, length, ◌∙◌, sym, ap, subst, rules}
+use Rattle.nv_memory.specs.declared.device.Device.{Device}
+use Rattle.nv_memory.specs.Board.{State, IsSound}
+use Rattle.board_core.specs.declared.outlook.Outlook.{Outlook}
+use Rattle.board_core.specs.Outlook.{IsOutlook}
+use Rattle.board_core.specs.Reached.{IsReached, model_start}
+use Rattle.board_core.proofs.ModelLemmas.{first_is, first_reached, first_sound}
+use Rattle.board_core.proofs.Outlooks.{none_outlook}
+use Rattle.board_core.proofs.model_board.ModelBoard.begun.Goals as goal
+
+pub invariant_of-result : goal.invariant_of-result
+invariant_of-result c =
+    let o = c.of.result in
+    let image_is : o.image ≡ c.args.image.items = search rules in
+    let es_is = c.in_ok-timeline.ensures.entries in
+    let now_is = first_is o c.args.image.items _ c.args.tick c.args.stored image_is es_is c.of.ensures.tick c.of.ensures.stored in
+    let small : length o.image < 4294967296 = subst (λ (l : List ℕ). length l < 4294967296) (sym image_is) c.requires.image in
+    record {
+      sound = subst (λ (t : State). IsSound (model_start o) t) now_is (first_sound o small c.of.ensures.bytes);
+      reached = subst (λ (t : State). IsReached o t) now_is (first_reached o);
+      ahead = subst (λ (x : Outlook). IsOutlook o c.args.tick x) (sym c.none.ensures) (none_outlook o c.args.tick);
+      cap = c.in_ok-timeline.ensures.cap ∙ ap (λ (d : Device). d.cap) (sym c.of.ensures.device);
+      room = search rules;
+    }

@@ -1,0 +1,9 @@
+pub mod Rules
+pub mod Reached
+pub mod Outlook
+pub mod Onward
+pub mod ModelState
+pub mod Records
+pub mod Kept
+pub mod ModelBoardState
+pub mod Laws

@@ -1,0 +1,14 @@
+mod Asks
+mod Stored
+mod Costs
+mod Warrants
+mod RowsInForce
+mod Setting
+mod Begins
+mod Within
+mod Moves
+mod Goes
+mod Turns
+mod Back
+mod Whole
+mod ChosenRows

@@ -1,0 +1,5 @@
+pub mod Calm
+pub mod Claims
+pub mod Numbers
+pub mod Chosen
+pub mod Laws

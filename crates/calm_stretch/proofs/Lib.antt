@@ -1,0 +1,16 @@
+mod Sums
+mod Demands
+mod Supply
+mod Worlds
+mod Held
+mod Facts
+mod Begun
+mod Passed
+mod First
+mod Ticks
+mod Along
+mod Lawful
+mod Entries
+mod Stages
+mod Next
+mod Epoch

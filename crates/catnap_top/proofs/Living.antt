@@ -1,0 +1,190 @@
+-- What a replay that has ended tells.
+use Rattle.std.proofs.Common.{◌≡◌, ℕ, ◌*◌, ◌≤◌, arith, replicate, false, List, [], ◌∷◌, ◌++◌, length, take, Result, Ok, Err, refl, sym, ap, ◌∙◌, subst, le_refl}
+use Rattle.cat_program.specs.Checked.{Checked, IsChecked}
+use Rattle.harvest_trace.specs.declared.failures.Failure.{Failure}
+use Rattle.harvest_trace.specs.declared.row.TraceRow.{TraceRow}
+use Rattle.nv_memory.specs.declared.device.Device.{Device}
+use Rattle.nv_memory.specs.declared.entry.Entry.{Entry}
+use Rattle.nv_memory.specs.declared.layout.Layout.{Layout}
+use Rattle.nv_memory.specs.Board.{State, image_by}
+use Rattle.nv_memory.specs.Laws.{PartsAreApart, WritesAreLocal}
+use Rattle.nv_memory.specs.Layout.{lines_of, size_of, slot_at}
+use Rattle.checkpoint_slots.specs.declared.slot.Slot.{Slot}
+use Rattle.checkpoint_slots.specs.Slot.{spelling}
+use Rattle.std.proofs.lemmas.List.{length-replicate}
+use Rattle.recovery.specs.First.{IsFresh}
+use Rattle.recovery.specs.Committed.{IsCommitted}
+use Rattle.event_arrivals.specs.Arrivals.{Lists}
+use Rattle.degradation.specs.declared.chosen.Chosen.{Chosen}
+use Rattle.degradation.specs.Choice.{supply_of, Suits}
+use Rattle.degradation.specs.Placed.{IsLayoutOf}
+use Rattle.board_core.specs.declared.origin.ModelOrigin.{ModelOrigin}
+use Rattle.board_core.specs.Reached.{IsReached, first_state, model_start}
+use Rattle.cn_scheduler.specs.declared.engine.End.{End}
+use Rattle.cn_scheduler.specs.declared.plan.Plan.{Plan}
+use Rattle.cn_scheduler.specs.declared.engine.Engine.{Engine}
+use Rattle.cn_scheduler.specs.EnginePoint.{point_of}
+use Rattle.cn_scheduler.specs.Point.{Point}
+use Rattle.cn_scheduler.specs.Chunks.{entries_of}
+use Rattle.cn_runtime.specs.declared.refused.PrepareFault.{PrepareFault}
+use Rattle.cn_runtime.specs.declared.refused.PrepareFault.TheVariants as prepare
+use Rattle.cn_runtime.specs.Claims.{IsReplayed}
+use Rattle.cn_runtime.specs.Planned.{IsChosenFor, IsPlanFor, IsPrepared, IsRefused}
+use Rattle.cn_runtime.specs.declared.prepared.Prepared.{Prepared}
+use Rattle.checkpoint_slots.specs.Slot.{IsMadeFor}
+use Rattle.board_core.specs.declared.model_board.ModelBoard.{ModelBoard}
+use Rattle.board_core.specs.ModelBoardState.{origin_of, state_of}
+use Rattle.cn_report.specs.declared.shadow.Shadow.{Shadow}
+use Rattle.cn_report.specs.Past.{Past, image_at, last_image, past_of}
+use Rattle.cn_report.specs.Whole.{report_text, IsReplayed as IsTold}
+use Rattle.catnap_top.specs.declared.files.ReplayFiles.{ReplayFiles}
+use Rattle.catnap_top.specs.declared.fault.Fault.{Fault}
+use Rattle.catnap_top.specs.declared.fault.NoChoice.TheVariants as none
+use Rattle.catnap_top.specs.Answer.{Answer}
+use Rattle.catnap_top.specs.Look.{Stops, fits, fails, goes}
+use Rattle.catnap_top.specs.Lives.{Life, Lives, first_point, reported, status_of}
+use Rattle.catnap_top.specs.Served.{versions_in, stop_of_replay}
+use Rattle.catnap_top.specs.declared.replay.Replayed.{Replayed}
+use Rattle.catnap_top.specs.Replay.{living}
+use Rattle.catnap_top.specs.Replayed.{replayed_answer, HasEnded, IsReadyToTell}
+
+-- ---- the versions
+
+pub replay_stops : (p : Checked) (d : Device) (f : PrepareFault) → IsRefused p d f → Stops (versions_in p d (supply_of d)) (stop_of_replay f)
+replay_stops p d (prepare.WindowTooLong spacing) h =
+    fails (none.Window spacing) (record { l = h.layout; b = h.bounds; layout = h.is_layout; bounds = h.are_bounds; choice = h.none }) refl
+replay_stops p d (prepare.Rejected verdict) h =
+    fails (none.Rejected verdict) (record { l = h.layout; b = h.bounds; layout = h.is_layout; bounds = h.are_bounds; choice = h.none }) refl
+replay_stops p d prepare.NoMemory h = tt
+
+pub chosen_in : (p : Checked) (d : Device) (l : Layout) (chosen : Chosen) → IsLayoutOf p d l → IsChosenFor p d l chosen → versions_in p d (supply_of d) (Ok chosen)
+chosen_in p d l chosen layout is =
+    fits chosen (record { l = l; b = is.bounds; layout = layout; bounds = is.are_bounds; choice = is.choice }) refl
+
+-- ---- the report
+
+-- after the last entry the image stands for a run's moment, so it has committed a value
+pub told : (p : Checked) (plan : Plan) (start : Point) (end : End) (s : State) → IsReplayed p plan start end s → start.board.timeline ≡ []
+    → IsFresh p plan.layout start.board.image → IsTold p (record { layout = plan.layout; first = start.board.image; timeline = s.timeline })
+unfolding image_at
+told p plan start end s is none fresh =
+    let es : List Entry = entries_of is.chunks in
+    let whole : s.timeline ≡ es = ap (λ (t : State). t.timeline) (sym is.leads) ∙ is.holds.timeline ∙ ap (λ (t : List Entry). t ++ es) none in
+    let last = is.holds.images (length es) (le_refl _) in
+    record {
+      fresh = fresh;
+      value = last.1.value;
+      committed = subst (λ image. IsCommitted plan.layout p image last.1.value)
+          (sym (ap (λ (t : List Entry). image_by (take (length t) t) start.board.image) whole)) last.1.committed;
+    }
+
+-- a lawful timeline that a board came to by its rules is the life that the files call for
+pub lives : (files : ReplayFiles) (chosen : Chosen) (plan : Plan) (origin : ModelOrigin) (start : Point) (end : End) (s : State)
+    → IsPlanFor files.program files.device files.arrivals chosen plan → origin.trace ≡ files.trace → origin.fails ≡ files.failures → origin.device ≡ files.device
+    → origin.tick ≡ 0 → origin.stored ≡ files.device.start → IsFresh files.program plan.layout origin.image → start ≡ first_point files plan.layout origin
+    → IsReplayed files.program plan start end s → IsReached origin s → Lives files chosen (record { layout = plan.layout; origin = origin; state = s; end = end })
+lives files chosen plan origin start end s is_plan trace failing device tick stored fresh first is reached =
+    let is' : IsReplayed files.program plan (first_point files plan.layout origin) end s = subst (λ (p : Point). IsReplayed files.program plan p end s) first is in
+    record {
+      plan = plan;
+      is_plan = is_plan;
+      layout_is = refl;
+      trace_is = trace;
+      fails_are = failing;
+      device_is = device;
+      at_first = tick;
+      stored_is = stored;
+      fresh = fresh;
+      chunks = is'.chunks;
+      lawful = is'.lawful;
+      leads = is'.leads;
+      ends = is'.ends;
+      reached = reached;
+    }
+
+-- ---- a replay that has ended
+
+module _ (files : ReplayFiles) (before : Prepared) (engine : Engine) (o0 : ModelOrigin) (s0 : State) (board : ModelBoard) (end : End) (shadow : Shadow)
+    (is : IsPrepared files.program files.device files.arrivals before) (same : origin_of board ≡ o0) (begins : s0 ≡ first_state o0)
+    (trace : o0.trace ≡ files.trace) (failing : o0.fails ≡ files.failures) (device : o0.device ≡ files.device) (tick : o0.tick ≡ 0) (stored : o0.stored ≡ files.device.start)
+    (fresh : IsFresh before.program before.plan.layout o0.image) (replayed : IsReplayed before.program before.plan (point_of before.engine s0) end (state_of board))
+    (reached : IsReached (origin_of board) (state_of board)) (made : IsMadeFor before.plan.layout shadow.slot) where
+  first : point_of before.engine s0 ≡ first_point files before.plan.layout (origin_of board)
+  first =
+      let board_is : s0 ≡ first_state (origin_of board) = begins ∙ ap first_state (sym same) in
+      λ i. record { board = board_is i; work = is.first.work i; dirty = is.first.clean i }
+
+  fresh' : IsFresh files.program before.plan.layout (origin_of board).image
+  fresh' =
+      subst (λ (p : Checked). IsFresh p before.plan.layout (origin_of board).image) is.program_is
+      (subst (λ (o : ModelOrigin). IsFresh before.program before.plan.layout o.image) (sym same) fresh)
+
+  replayed' : IsReplayed files.program before.plan (point_of before.engine s0) end (state_of board)
+  replayed' = subst (λ (p : Checked). IsReplayed p before.plan (point_of before.engine s0) end (state_of board)) is.program_is replayed
+
+  one_life : Lives files before.chosen (record { layout = before.plan.layout; origin = origin_of board; state = state_of board; end = end })
+  one_life =
+      lives files before.chosen before.plan (origin_of board) (point_of before.engine s0) end (state_of board) is.plan
+      (ap (λ (o : ModelOrigin). o.trace) same ∙ trace) (ap (λ (o : ModelOrigin). o.fails) same ∙ failing) (ap (λ (o : ModelOrigin). o.device) same ∙ device)
+      (ap (λ (o : ModelOrigin). o.tick) same ∙ tick) (ap (λ (o : ModelOrigin). o.stored) same ∙ stored) fresh' first replayed' reached
+
+  pub looks : living files (Ok (replayed_answer (record { prepared = record before { engine = engine }; board = board; end = end; shadow = shadow })))
+  looks =
+      goes before.chosen (chosen_in files.program files.device before.plan.layout before.chosen is.plan.layout_is is.chosen)
+      (record {
+        life = record { layout = before.plan.layout; origin = origin_of board; state = state_of board; end = end };
+        lives = one_life;
+        came_is = λ i. Ok (record {
+          status = status_of end;
+          text = report_text (is.program_is i).headers (is.program_is i).variables before.chosen (is.plan.arrivals_are i)
+              (past_of before.plan.layout (model_start (origin_of board)) (state_of board)) (state_of board).tick (state_of board).stored end;
+        });
+      })
+
+  pub ready : IsReadyToTell (record { prepared = record before { engine = engine }; board = board; end = end; shadow = shadow })
+  ready =
+      let back = sym is.program_is in
+      record {
+        suits = subst (λ (p : Checked). Suits p before.chosen) back is.chosen.suits;
+        events = is.set_up.plan_is.queue ∙ ap (λ (p : Checked). length p.events) back;
+        replayed = subst (λ (p : Checked). IsTold p (past_of before.plan.layout (model_start (origin_of board)) (state_of board))) back
+            (told files.program before.plan (first_point files before.plan.layout (origin_of board)) end (state_of board)
+            (subst (λ (p : Point). IsReplayed files.program before.plan p end (state_of board)) first replayed') refl fresh');
+        made = made;
+      }
+
+-- what has ended is what the files call for, and can be told
+tells : (r : Replayed) (files : ReplayFiles) (before : Prepared) (trace : List TraceRow) (failures : List Failure) (device : Device)
+    → IsPrepared files.program files.device files.arrivals before → trace ≡ files.trace → failures ≡ files.failures → device ≡ files.device
+    → HasEnded before trace failures device r → (living files (Ok (replayed_answer r))) × IsReadyToTell r
+tells r files before trace failures device is t f d h =
+    let b = h.begun in
+    let stored : (origin_of h.first).stored ≡ files.device.start = b.stored_is ∙ ap (λ (x : Device). x.start) d in
+    let l = looks files before r.prepared.engine (origin_of h.first) (state_of h.first) r.board r.end r.shadow is h.same b.state_is (b.trace_is ∙ t) (b.fails_are ∙ f)
+            (b.device_is ∙ d) b.tick_is stored b.fresh h.replayed h.reached h.made in
+    let w = ready files before r.prepared.engine (origin_of h.first) (state_of h.first) r.board r.end r.shadow is h.same b.state_is (b.trace_is ∙ t) (b.fails_are ∙ f)
+            (b.device_is ∙ d) b.tick_is stored b.fresh h.replayed h.reached h.made in
+    let back : (record before { engine = r.prepared.engine }) ≡ r.prepared = sym h.others in (
+      subst (λ (p : Prepared). living files (Ok (replayed_answer (record { prepared = p; board = r.board; end = r.end; shadow = r.shadow })))) back l,
+      subst (λ (p : Prepared). IsReadyToTell (record { prepared = p; board = r.board; end = r.end; shadow = r.shadow })) back w,
+    )
+
+pub tells_looks : (r : Replayed) (files : ReplayFiles) (before : Prepared) (trace : List TraceRow) (failures : List Failure) (device : Device)
+    → IsPrepared files.program files.device files.arrivals before → trace ≡ files.trace → failures ≡ files.failures → device ≡ files.device
+    → HasEnded before trace failures device r → living files (Ok (replayed_answer r))
+tells_looks r files before trace failures device is t f d h = (tells r files before trace failures device is t f d h).0
+
+pub tells_written : (r : Replayed) (files : ReplayFiles) (before : Prepared) (trace : List TraceRow) (failures : List Failure) (device : Device)
+    → IsPrepared files.program files.device files.arrivals before → trace ≡ files.trace → failures ≡ files.failures → device ≡ files.device
+    → HasEnded before trace failures device r → IsReadyToTell r
+tells_written r files before trace failures device is t f d h = (tells r files before trace failures device is t f d h).1
+
+-- ---- the first image
+
+pub fresh_size : (p : Checked) (l : Layout) → WritesAreLocal → PartsAreApart l → ((s : Slot) → length (spelling l s) ≡ 64 * lines_of l) → (image : List ℕ) → IsFresh p l image
+    → length image ≡ size_of l
+fresh_size p l writes parts long image fresh =
+    let zeros : length (replicate (size_of l) 0) ≡ size_of l = length-replicate (size_of l) 0 in
+    let bytes = long fresh.slot in
+    ap length fresh.image_is
+    ∙ writes.size (slot_at l 0) (spelling l fresh.slot) (replicate (size_of l) 0) (omega (arith, zeros, bytes, parts.log 0 (omega arith), parts.fits)) ∙ zeros

@@ -1,0 +1,119 @@
+-- Files that tell the same call for the same lives and for the same reports.
+use Rattle.std.proofs.Common.{◌≡◌, ℕ, false, List, [], length, map, Result, Ok, None, Some, replicate, refl, sym, ap, ◌∙◌, subst}
+use Rattle.cat_program.specs.declared.headers.Event.{Event}
+use Rattle.cat_program.specs.Checked.{Checked}
+use Rattle.cat_machine.specs.Code.{code_of}
+use Rattle.nv_memory.specs.declared.device.Device.{Device}
+use Rattle.nv_memory.specs.declared.layout.Layout.{Layout}
+use Rattle.recovery.specs.First.{IsFresh}
+use Rattle.recovery.specs.Committed.{RestsAt}
+use Rattle.degradation.specs.declared.chosen.Chosen.{Chosen}
+use Rattle.board_core.specs.declared.origin.ModelOrigin.{ModelOrigin}
+use Rattle.board_core.specs.Reached.{first_state, model_start}
+use Rattle.cn_scheduler.specs.declared.plan.Plan.{Plan}
+use Rattle.cn_scheduler.specs.Point.{Point}
+use Rattle.cn_scheduler.specs.Chunks.{IsLawful, point_after}
+use Rattle.cn_runtime.specs.Planned.{IsPlanFor}
+use Rattle.cn_report.specs.Past.{past_of}
+use Rattle.cn_report.specs.Whole.{report_text}
+use Rattle.same_program.specs.Same.{IsSame}
+use Rattle.catnap_top.specs.declared.files.ReplayFiles.{ReplayFiles}
+use Rattle.catnap_top.specs.Answer.{Answer}
+use Rattle.catnap_top.specs.Alike.{Agree, AreSameFiles}
+use Rattle.catnap_top.specs.Lives.{Life, Lives, first_point, reported, status_of}
+use Rattle.catnap_top.specs.OneLife.{LivesAreOne}
+use Rattle.catnap_top.specs.Replay.{Reports}
+use Rattle.catnap_top.proofs.Looks.{alike_by}
+
+abbrev pub SameCode : Type 0
+SameCode = (p q : Checked) → IsSame p q → code_of p ≡ code_of q
+
+module _ (code : SameCode) (x y : ReplayFiles) (same : AreSameFiles x y) where
+  plan_same : (c : Chosen) (plan : Plan) → IsPlanFor x.program x.device x.arrivals c plan → IsPlanFor y.program y.device y.arrivals c plan
+  plan_same c plan is =
+      let alike = same.program.same in
+      record {
+        code_is = is.code_is ∙ code x.program y.program alike;
+        rows_are = is.rows_are;
+        wake_is = is.wake_is ∙ ap (λ (d : Device). d.wake.bound) same.device;
+        arrivals_are = is.arrivals_are ∙ same.arrivals;
+        deadlines_are = is.deadlines_are ∙ ap (λ (headers : List Event). map (λ (header : Event). header.deadline) headers) alike.headers;
+        layout_is = record {
+          words = is.layout_is.words ∙ ap (λ words. length words) alike.words;
+          tasks = is.layout_is.tasks ∙ ap (λ tasks. length tasks) alike.tasks;
+          events = is.layout_is.events ∙ ap (λ events. length events) alike.events;
+          log = is.layout_is.log ∙ ap (λ (d : Device). d.log) same.device;
+        };
+      }
+
+  fresh_same : (l : Layout) (image : List ℕ) → IsFresh x.program l image → IsFresh y.program l image
+  fresh_same l image is =
+      let alike = same.program.same in
+      record {
+        slot = is.slot;
+        first = record {
+          made = is.first.made;
+          len = is.first.len;
+          steps = is.first.steps;
+          pc = is.first.pc;
+          variables = is.first.variables ∙ alike.words;
+          posts = is.first.posts ∙ alike.started;
+          done = is.first.done;
+        };
+        image_is = is.image_is;
+        committed = record {
+          formed = is.committed.formed;
+          slot_is = is.committed.slot_is;
+          rests = subst (λ pc. RestsAt y.program pc None) (sym is.first.pc) refl;
+          recorded = record {
+            many = is.committed.recorded.many;
+            entries_are = λ k e none. absurd (cc);
+            counted = is.committed.recorded.counted;
+          };
+        };
+      }
+
+  first_same : (l : Layout) (origin : ModelOrigin) → first_point x l origin ≡ first_point y l origin
+  first_same l origin =
+      let alike = same.program.same in
+      λ i. record {
+        board = first_state origin;
+        work = record { words = alike.words i; posts = alike.started i; place = None; len = 0; steps = 0; done = replicate l.events 0 };
+        dirty = false;
+      }
+
+  lives_same : (c : Chosen) (life : Life) → Lives x c life → Lives y c life
+  lives_same c life is =
+      let first = first_same is.plan.layout life.origin in
+      record {
+        plan = is.plan;
+        is_plan = plan_same c is.plan is.is_plan;
+        layout_is = is.layout_is;
+        trace_is = is.trace_is ∙ same.trace;
+        fails_are = is.fails_are ∙ same.failures;
+        device_is = is.device_is ∙ same.device;
+        at_first = is.at_first;
+        stored_is = is.stored_is ∙ ap (λ (d : Device). d.start) same.device;
+        fresh = fresh_same is.plan.layout life.origin.image is.fresh;
+        chunks = is.chunks;
+        lawful = subst (λ (p : Point). IsLawful is.plan p is.chunks) first is.lawful;
+        leads = subst (λ (p : Point). (point_after p is.chunks).board ≡ life.state) first is.leads;
+        ends = is.ends;
+        reached = is.reached;
+      }
+
+  text_same : (c : Chosen) (life : Life) → reported x c life ≡ reported y c life
+  text_same c life =
+      let alike = same.program.same in
+      let arrivals = same.arrivals in
+      λ i. record {
+        status = status_of life.end;
+        text = report_text (alike.headers i) (alike.variables i) c (arrivals i) (past_of life.layout (model_start life.origin) life.state)
+            life.state.tick life.state.stored life.end;
+      }
+
+  pub reports_agree : LivesAreOne → (c e : Chosen) → c ≡ e → Agree (λ (a b : Answer). a ≡ b) (Reports x c) (Reports y e)
+  reports_agree one c e equal came also h k =
+      let life : h.life ≡ k.life = one y c h.life k.life (lives_same c h.life h.lives) (subst (λ (v : Chosen). Lives y v k.life) (sym equal) k.lives) in
+      alike_by (λ (a b : Answer). a ≡ b) (Ok (reported x c h.life)) came (Ok (reported y e k.life)) also h.came_is k.came_is
+      (text_same c h.life ∙ ap (reported y c) life ∙ ap (λ (v : Chosen). reported y v k.life) equal)

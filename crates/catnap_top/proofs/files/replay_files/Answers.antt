@@ -1,0 +1,48 @@
+use Rattle.std.proofs.Common.{refl}
+use Rattle.catnap_top.specs.Files.{files_in}
+use Rattle.catnap_top.specs.Look.{goes}
+use Rattle.catnap_top.proofs.Looks.{stops_first, stops_next, passes_on}
+use Rattle.catnap_top.proofs.files.replay_files.Goals as goal
+
+pub returns-in_err-program-clause-looks : goal.returns-in_err-program-clause-looks
+returns-in_err-program-clause-looks c =
+    passes_on (λ x. x) (files_in c.args.source.now c.args.profile.now c.args.trace.now c.args.arrivals.now c.args.failures.now) c.from_residual.result c.in_err-program.field-0.0 c.from_residual.ensures.1
+    (stops_first _ _ c.in_err-program.field-0.0 c.in_err-program.ensures)
+
+pub returns-in_err-device-clause-looks : goal.returns-in_err-device-clause-looks
+returns-in_err-device-clause-looks c =
+    passes_on (λ x. x) (files_in c.args.source.now c.args.profile.now c.args.trace.now c.args.arrivals.now c.args.failures.now) c.from_residual-in_err-device.result c.in_err-device.field-0.0 c.from_residual-in_err-device.ensures.1
+    (stops_next _ _ c.in_ok-program.program c.in_err-device.field-0.0 c.in_ok-program.ensures
+    (stops_first _ _ c.in_err-device.field-0.0 c.in_err-device.ensures))
+
+pub returns-in_err-trace-clause-looks : goal.returns-in_err-trace-clause-looks
+returns-in_err-trace-clause-looks c =
+    passes_on (λ x. x) (files_in c.args.source.now c.args.profile.now c.args.trace.now c.args.arrivals.now c.args.failures.now) c.from_residual-in_err-trace.result c.in_err-trace.field-0.0 c.from_residual-in_err-trace.ensures.1
+    (stops_next _ _ c.in_ok-program.program c.in_err-trace.field-0.0 c.in_ok-program.ensures
+    (stops_next _ _ c.in_ok-device.device c.in_err-trace.field-0.0 c.in_ok-device.ensures
+    (stops_first _ _ c.in_err-trace.field-0.0 c.in_err-trace.ensures)))
+
+pub returns-in_err-arrivals-clause-looks : goal.returns-in_err-arrivals-clause-looks
+returns-in_err-arrivals-clause-looks c =
+    passes_on (λ x. x) (files_in c.args.source.now c.args.profile.now c.args.trace.now c.args.arrivals.now c.args.failures.now) c.from_residual-in_err-arrivals.result c.in_err-arrivals.field-0.0 c.from_residual-in_err-arrivals.ensures.1
+    (stops_next _ _ c.in_ok-program.program c.in_err-arrivals.field-0.0 c.in_ok-program.ensures
+    (stops_next _ _ c.in_ok-device.device c.in_err-arrivals.field-0.0 c.in_ok-device.ensures
+    (stops_next _ _ c.in_ok-trace.trace c.in_err-arrivals.field-0.0 c.in_ok-trace.ensures
+    (stops_first _ _ c.in_err-arrivals.field-0.0 c.in_err-arrivals.ensures.looks))))
+
+pub returns-in_err-failures-clause-looks : goal.returns-in_err-failures-clause-looks
+returns-in_err-failures-clause-looks c =
+    passes_on (λ x. x) (files_in c.args.source.now c.args.profile.now c.args.trace.now c.args.arrivals.now c.args.failures.now) c.from_residual-in_err-failures.result c.in_err-failures.field-0.0 c.from_residual-in_err-failures.ensures.1
+    (stops_next _ _ c.in_ok-program.program c.in_err-failures.field-0.0 c.in_ok-program.ensures
+    (stops_next _ _ c.in_ok-device.device c.in_err-failures.field-0.0 c.in_ok-device.ensures
+    (stops_next _ _ c.in_ok-trace.trace c.in_err-failures.field-0.0 c.in_ok-trace.ensures
+    (stops_next _ _ c.in_ok-arrivals.arrivals c.in_err-failures.field-0.0 c.in_ok-arrivals.ensures.looks
+    (stops_first _ _ c.in_err-failures.field-0.0 c.in_err-failures.ensures)))))
+
+pub returns-clause-looks : goal.returns-clause-looks
+returns-clause-looks c =
+    goes c.in_ok-program.program c.in_ok-program.ensures
+    (goes c.in_ok-device.device c.in_ok-device.ensures
+    (goes c.in_ok-trace.trace c.in_ok-trace.ensures
+    (goes c.in_ok-arrivals.arrivals c.in_ok-arrivals.ensures.looks
+    (goes c.in_ok-failures.failures c.in_ok-failures.ensures refl))))

@@ -1,0 +1,36 @@
+use Rattle.std.proofs.Common.{◌≡◌, ap, ◌∙◌, subst, arith, length}
+use Rattle.catnap_top.specs.declared.words.Form.TheVariants.{Run, List as Listing, Check, Replay}
+use Rattle.catnap_top.specs.Words.{file_count}
+use Rattle.catnap_top.specs.Look.{LooksAs}
+use Rattle.catnap_top.specs.Reply.{reply_answer}
+use Rattle.catnap_top.specs.Run.{running}
+use Rattle.catnap_top.specs.Listed.{listing}
+use Rattle.catnap_top.specs.Check.{checking}
+use Rattle.catnap_top.proofs.Preparing.{contents, file_at, looks_as_form}
+use Rattle.catnap_top.proofs.reply.prepare.Goals as goal
+
+pub returns-in-Run-clause-looks : goal.returns-in-Run-clause-looks
+returns-in-Run-clause-looks c =
+    let files = c.args.files.now in
+    let count : length files ≡ 1 = c.requires ∙ ap file_count c.in-Run.is in
+    looks_as_form c.args.form (Run c.in-Run.steps) (contents files) c.prepare_run.result c.in-Run.is
+    (subst (λ source. LooksAs reply_answer (running c.in-Run.steps source) c.prepare_run.result)
+    (file_at files 0 c.index-files-0.result c.as_slice.result.now (omega arith) c.as_slice.ensures.value c.index-files-0.is) c.prepare_run.ensures)
+
+pub returns-in-List-clause-looks : goal.returns-in-List-clause-looks
+returns-in-List-clause-looks c =
+    let files = c.args.files.now in
+    let count : length files ≡ 1 = c.requires ∙ ap file_count c.in-List.is in
+    looks_as_form c.args.form Listing (contents files) c.prepare_list.result c.in-List.is
+    (subst (λ source. LooksAs reply_answer (listing source) c.prepare_list.result)
+    (file_at files 0 c.index-files-0-in-List.result c.as_slice-in-List.result.now (omega arith) c.as_slice-in-List.ensures.value c.index-files-0-in-List.is)
+    c.prepare_list.ensures)
+
+pub returns-in-Check-clause-looks : goal.returns-in-Check-clause-looks
+returns-in-Check-clause-looks c =
+    let files = c.args.files.now in
+    let count : length files ≡ 2 = c.requires ∙ ap file_count c.in-Check.is in
+    let source = file_at files 0 c.index-files-0-in-Check.result c.as_slice-in-Check.result.now (omega arith) c.as_slice-in-Check.ensures.value c.index-files-0-in-Check.is in
+    let profile = file_at files 1 c.index-files-1.result c.as_slice-in-Check-2.result.now (omega arith) c.as_slice-in-Check-2.ensures.value c.index-files-1.is in
+    looks_as_form c.args.form Check (contents files) c.prepare_check.result c.in-Check.is
+    (rw (source, profile) at c.prepare_check.ensures)

@@ -1,0 +1,49 @@
+use Rattle.std.proofs.Common.{◌∙◌, sym, ap, arith, refl}
+use Rattle.std.proofs.lemmas.List.{append-nil}
+use Rattle.cn_base.specs.PageSums.{held_whole, held_adds}
+use Rattle.cn_base.specs.PageWords.{held_in}
+use Rattle.cat_program.specs.Checked.{body_at}
+use Rattle.cat_eval.specs.Cursor.{state_of}
+use Rattle.catnap_top.specs.Run.{answers}
+use Rattle.catnap_top.proofs.Running.{left_go, left_stop, answers_done, goes, out_more, run_cut, run_ends}
+use Rattle.catnap_top.proofs.run.add_steps.Goals as goal
+
+pub returns-then-not-is_step-clause-text : goal.returns-then-not-is_step-clause-text
+returns-then-not-is_step-clause-text g c =
+    let p = c.args.program.now in
+    let xs = answers (body_at p) c.args.steps (state_of p c.args.state) in
+    let none = left_stop xs p c.args.steps c.loop-taken.taken c.loop-taken.state c.task_step-stepped.new.state c.task_step-stepped.result
+    c.loop-taken.invariant.2 c.task_step-stepped.ensures.step (c.is_step.ensures.none c.if-not-is_step.true) in
+    run_ends _ _ _ _ _ _ xs c.loop-taken.taken c.add_count.result c.loop-taken.invariant.3 c.loop-taken.invariant.5 none c.add_count.ensures.text
+
+pub returns-in-Err-clause-text : goal.returns-in-Err-clause-text
+returns-in-Err-clause-text g c =
+    let p = c.args.program.now in
+    let xs = answers (body_at p) c.args.steps (state_of p c.args.state) in
+    let left = left_go xs p c.args.steps c.loop-taken.taken c.loop-taken.state c.task_step-stepped.new.state c.task_step-stepped.result
+    c.loop-taken.invariant.2 c.loop-taken-test.true c.task_step-stepped.ensures.step (c.is_step.ensures.step c.if-not-is_step.false) in
+    run_cut _ _ _ _ _ xs c.loop-taken.taken c.task_step-stepped.result _ c.loop-taken.invariant.3 left c.in-Err.ensures.text
+
+pub loop-taken-preserved : goal.loop-taken-preserved
+loop-taken-preserved g c =
+    let p = c.args.program.now in
+    let xs = answers (body_at p) c.args.steps (state_of p c.args.state) in
+    let left = left_go xs p c.args.steps c.loop-taken.taken c.loop-taken.state c.task_step-stepped.new.state c.task_step-stepped.result
+    c.loop-taken.invariant.2 c.loop-taken-test.true c.task_step-stepped.ensures.step (c.is_step.ensures.step c.if-not-is_step.false) in
+    let more = goes xs c.loop-taken.taken c.task_step-stepped.result _ left in (
+      omega arith,
+      c.task_step-stepped.ensures.fits,
+      more.left,
+      held_adds _ _ _ _ _ _ _ _ _ (sym (out_more xs c.loop-taken.taken c.task_step-stepped.result _ left)) c.loop-taken.invariant.3 c.in-Ok.ensures.text,
+      c.in-Ok.ensures.cause.kept ∙ c.loop-taken.invariant.4,
+      more.within,
+      c.in-Ok.ensures.same_sink ∙ c.loop-taken.invariant.6,
+    )
+
+pub returns-clause-text : goal.returns-clause-text
+returns-clause-text g c =
+    let p = c.args.program.now in
+    let xs = answers (body_at p) c.args.steps (state_of p c.args.state) in
+    run_ends _ _ _ _ _ _ xs c.loop-taken.taken c.add_count-2.result c.loop-taken.invariant.3 c.loop-taken.invariant.5
+    (c.loop-taken.invariant.2 ∙ answers_done (body_at p) c.args.steps c.loop-taken.taken (state_of p c.loop-taken.state) c.loop-taken-test.false)
+    c.add_count-2.ensures.text

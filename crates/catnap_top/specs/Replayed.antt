@@ -1,0 +1,54 @@
+-- A replay that has ended, and the answer for which it stands.
+use Rattle.std.specs.Prelude.{◌≡◌, List, length}
+use Rattle.harvest_trace.specs.declared.failures.Failure.{Failure}
+use Rattle.harvest_trace.specs.declared.row.TraceRow.{TraceRow}
+use Rattle.nv_memory.specs.declared.device.Device.{Device}
+use Rattle.recovery.specs.First.{IsFresh}
+use Rattle.cn_scheduler.specs.EnginePoint.{point_of}
+use Rattle.cn_runtime.specs.declared.prepared.Prepared.{Prepared}
+use Rattle.cn_runtime.specs.Claims.{IsReplayed as Ran}
+use Rattle.board_core.specs.declared.model_board.ModelBoard.{ModelBoard}
+use Rattle.checkpoint_slots.specs.Slot.{IsMadeFor}
+use Rattle.degradation.specs.Choice.{Suits}
+use Rattle.board_core.specs.Reached.{IsReached, first_state, model_start}
+use Rattle.board_core.specs.ModelBoardState.{origin_of, state_of}
+use Rattle.cn_report.specs.Past.{past_of}
+use Rattle.cn_report.specs.Whole.{report_text, IsReplayed}
+use Rattle.catnap_top.specs.declared.replay.Replayed.{Replayed}
+use Rattle.catnap_top.specs.Answer.{Answer}
+use Rattle.catnap_top.specs.Lives.{status_of}
+
+abbrev pub replayed_answer : Replayed → Answer
+replayed_answer r =
+    record {
+      status = status_of r.end;
+      text = report_text r.prepared.program.headers r.prepared.program.variables r.prepared.chosen r.prepared.plan.queue.arrivals
+          (past_of r.prepared.plan.layout (model_start (origin_of r.board)) (state_of r.board)) (state_of r.board).tick (state_of r.board).stored r.end;
+    }
+
+-- its report can be written
+pub record IsReadyToTell (r : Replayed) : Type 0 where
+  pub suits : Suits r.prepared.program r.prepared.chosen
+  pub events : length r.prepared.plan.queue.arrivals.timings ≡ length r.prepared.program.events
+  pub replayed : IsReplayed r.prepared.program (past_of r.prepared.plan.layout (model_start (origin_of r.board)) (state_of r.board))
+  pub made : IsMadeFor r.prepared.plan.layout r.shadow.slot
+
+-- a board at the beginning of its trace, with the first image of what was prepared
+pub record HasBegun (prepared : Prepared) (trace : List TraceRow) (failures : List Failure) (device : Device) (board : ModelBoard) : Type 0 where
+  pub trace_is : (origin_of board).trace ≡ trace
+  pub fails_are : (origin_of board).fails ≡ failures
+  pub device_is : (origin_of board).device ≡ device
+  pub tick_is : (origin_of board).tick ≡ 0
+  pub stored_is : (origin_of board).stored ≡ device.start
+  pub fresh : IsFresh prepared.program prepared.plan.layout (origin_of board).image
+  pub state_is : state_of board ≡ first_state (origin_of board)
+
+-- a replay of what was prepared, on such a board, has ended
+pub record HasEnded (prepared : Prepared) (trace : List TraceRow) (failures : List Failure) (device : Device) (r : Replayed) : Type 0 where
+  pub first : ModelBoard
+  pub begun : HasBegun prepared trace failures device first
+  pub same : origin_of r.board ≡ origin_of first
+  pub others : r.prepared ≡ record prepared { engine = r.prepared.engine }
+  pub replayed : Ran prepared.program prepared.plan (point_of prepared.engine (state_of first)) r.end (state_of r.board)
+  pub reached : IsReached (origin_of r.board) (state_of r.board)
+  pub made : IsMadeFor prepared.plan.layout r.shadow.slot

@@ -1,0 +1,7 @@
+use Rattle.std.proofs.Common.{◌∙◌}
+use Rattle.checkpoint_slots.specs.Image.{selected_of}
+use Rattle.cn_report.proofs.Committing.{second_is, selected_shows}
+use Rattle.cn_report.proofs.heads.Heads.steps.Goals as goal
+
+pub returns : goal.returns
+returns c l image heads = c.second_number.ensures ∙ second_is l image (selected_of image) c.selected.result (selected_shows l image c.args.self.now c.selected.result heads c.selected.ensures)

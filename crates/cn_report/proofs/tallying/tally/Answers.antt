@@ -1,0 +1,20 @@
+use Rattle.std.proofs.Common.{ap, ◌∙◌}
+use Rattle.checkpoint_slots.specs.declared.slot.Slot.{Slot}
+use Rattle.cn_report.proofs.Records.{image-formed, image-long, slot-is}
+use Rattle.cn_report.proofs.tallying.tally.Goals as goal
+
+pub recover-requires-clause-image : goal.recover-requires-clause-image
+recover-requires-clause-image g c =
+    image-long c.args.program.now c.args.layout.now (g.B.Board.start (g.B.Board.origin c.args.board.now)) (g.B.Board.state c.args.board.now) c.entries-sound.ensures.sound c.requires.replayed
+
+pub recover-requires-clause-formed : goal.recover-requires-clause-formed
+recover-requires-clause-formed g c =
+    image-formed c.args.program.now c.args.layout.now (g.B.Board.start (g.B.Board.origin c.args.board.now)) (g.B.Board.state c.args.board.now) c.entries-sound.ensures.sound c.requires.replayed
+
+pub count_log-counts-requires-clause-heads : goal.count_log-counts-requires-clause-heads
+count_log-counts-requires-clause-heads g c = c.fresh.ensures c.args.program.now c.args.layout.now (g.B.Board.start (g.B.Board.origin c.args.board.now)).image c.requires.replayed.fresh
+
+pub count_log-counts-requires-clause-len : goal.count_log-counts-requires-clause-len
+count_log-counts-requires-clause-len g c =
+    let slot = slot-is c.args.program.now c.args.layout.now (g.B.Board.start (g.B.Board.origin c.args.board.now)) (g.B.Board.state c.args.board.now) c.entries-sound.ensures.sound c.requires.replayed in
+    ap (λ (s : Slot). s.len) (c.recover.ensures ∙ slot)

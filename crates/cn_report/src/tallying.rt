@@ -1,0 +1,136 @@
+//! How many lines of each kind a report has.
+
+ghost use Rattle.std.specs.Prelude.{◌≡◌, ◌<◌, ◌≤◌, if◌then◌else◌, count_by, length};
+ghost use Rattle.nv_memory.specs.Board.{IsSound};
+ghost use Rattle.nv_log.specs.Record.{IsOf};
+ghost use Rattle.checkpoint_slots.specs.Slot.{IsMadeFor};
+ghost use Rattle.cn_report.specs.Past.{past_of, last_slot, entry_in, done_at};
+ghost use Rattle.cn_report.specs.Counts.{is_out, is_ran, is_met, records, outs_in, ran_in, met_in};
+ghost use Rattle.cn_report.specs.Tallied.{tally_of};
+ghost use Rattle.cn_report.specs.Whole.{IsReplayed};
+ghost use Rattle.cn_report.specs.Windows.{AreHeads};
+
+use crate::counts::Tally;
+use crate::cursor::Cursor;
+use crate::heads::Heads;
+use crate::log::{Recorded, due, record_at};
+use crate::shadow::Shadow;
+use cat_program::{LogEntry, Program};
+use event_arrivals::Arrivals;
+use nv_memory::{Board, Layout};
+use recovery::recover;
+
+/// How many records of the log are of each kind.
+#[derive(Clone, Copy, Debug)]
+pub(crate) struct Counts {
+    pub(crate) ran: u32,
+    pub(crate) met: u32,
+    pub(crate) outs: u32,
+}
+
+fn one_if(test: bool) -> u32
+    ensures { result ≡ (if test then 1 else 0) }
+{
+    if test { 1 } else { 0 }
+}
+
+fn is_out(entry: LogEntry) -> bool
+    ensures { result ≡ is_out entry }
+{
+    match entry {
+        LogEntry::Out { .. } => true,
+        LogEntry::Ran { .. } => false,
+    }
+}
+
+fn is_met(program: &Program, arrivals: &Arrivals, recorded: Recorded) -> bool
+    requires events { length arrivals.now.timings ≡ length program.now.events }
+    requires entry { IsOf program.now recorded.entry }
+    ensures { result ≡ is_met program.now.headers arrivals.now recorded.done recorded.entry }
+{
+    match recorded.entry {
+        LogEntry::Out { .. } => false,
+        LogEntry::Ran { event, index, .. } => recorded.done <= due(program, arrivals, event, index),
+    }
+}
+
+// How many operations were lost.
+fn count_lost<B: Board>(board: &B) -> u32
+    ensures { result ≡ count_by (λ entry. entry.lost) (B.state board.now).timeline }
+{
+    let mut lost = 0;
+    for place in 0..board.entries() {
+        let entry = board.entry(place);
+        lost += one_if(entry.lost);
+    }
+    lost
+}
+
+// How many committed records are of each kind. The heads are those of the board's first image.
+fn count_log<B: Board>(
+    program: &Program,
+    arrivals: &Arrivals,
+    layout: &Layout,
+    board: &B,
+    heads: Heads,
+    len: u32,
+) -> Counts
+    requires events { length arrivals.now.timings ≡ length program.now.events }
+    requires sound { IsSound (B.start (B.origin board.now)) (B.state board.now) }
+    requires replayed { IsReplayed program.now (past_of layout.now (B.start (B.origin board.now)) (B.state board.now)) }
+    requires heads { AreHeads layout.now (B.start (B.origin board.now)).image heads }
+    requires len { len ≡ (last_slot (past_of layout.now (B.start (B.origin board.now)) (B.state board.now))).len }
+    ensures ran { result.ran ≡ ran_in (past_of layout.now (B.start (B.origin board.now)) (B.state board.now)) }
+    ensures met { result.met ≡ met_in program.now.headers arrivals.now (past_of layout.now (B.start (B.origin board.now)) (B.state board.now)) }
+    ensures outs { result.outs ≡ outs_in (past_of layout.now (B.start (B.origin board.now)) (B.state board.now)) }
+{
+    let mut cursor = Cursor::at(heads);
+    let mut ran = 0;
+    let mut met = 0;
+    let mut outs = 0;
+    for place in 0..len {
+        let recorded = record_at(program, layout, board, &mut cursor, place);
+        let out = is_out(recorded.entry);
+        ran += one_if(!out);
+        met += one_if(is_met(program, arrivals, recorded));
+        outs += one_if(out);
+    }
+    Counts { ran, met, outs }
+}
+
+/// Counts the lines of the report of a replay: the events that ran, those of them that were done in time, the operations that were
+/// lost, the arrivals that were dropped, and the values that were put out. The board is as for the report. Takes no memory.
+/// Afterwards the shadow may hold other slots.
+pub fn tally<B: Board>(
+    program: &Program,
+    arrivals: &Arrivals,
+    layout: &Layout,
+    board: &B,
+    shadow: &mut Shadow,
+) -> Tally
+    requires events { length arrivals.now.timings ≡ length program.now.events }
+    requires replayed { IsReplayed program.now (past_of layout.now (B.start (B.origin board.now)) (B.state board.now)) }
+    requires made { IsMadeFor layout.now shadow.old.slot }
+    ensures tally { result ≡ tally_of program.now.headers arrivals.now (past_of layout.now (B.start (B.origin board.now)) (B.state board.now)) }
+    ensures made { IsMadeFor layout.now shadow.new.slot }
+{
+    let lost = count_lost(board);
+    let _sound = board.entries();
+    arrivals.are_sound();
+    recover(board, layout, &mut shadow.slot);
+    let counts = count_log(
+        program,
+        arrivals,
+        layout,
+        board,
+        Heads::fresh(),
+        shadow.slot.len,
+    );
+    Tally {
+        ran: counts.ran,
+        met: counts.met,
+        lost,
+        dropped: arrivals.dropped().len() as u32,
+        outs: counts.outs,
+    }
+}

@@ -1,0 +1,5 @@
+pub mod Claims
+pub mod Lines
+pub mod Starting
+pub mod Working
+pub mod Planned

@@ -1,0 +1,42 @@
+ghost use Rattle.cat_program.specs.Checked.{Checked};
+ghost use Rattle.cn_scheduler.specs.declared.plan.Plan.{Plan};
+ghost use Rattle.cn_runtime.specs.Claims.{LawfulTimelinesHold};
+ghost use Rattle.cn_runtime.specs.Lines.{TimelinesGrow};
+ghost use Rattle.cn_runtime.specs.Starting.{StartsBelong};
+
+use cat_machine::runs_are_steps;
+use checkpoint_slots::{commits_are_safe, slots_are_read_again};
+use nv_memory::{parts_are_apart, writes_are_local};
+use own_runs::{earlier_runs_are_ordered, entries_tell, own_runs_go_on};
+use standing::{commits_are_kept, images_stand_for_one, operations_are_safe};
+
+/// After each entry of a lawful timeline the image stands for the reference run of its own entries and steps, which is an earlier
+/// moment of that of each later image.
+pub fn lawful_timelines_hold()
+    ensures { (program : Checked) (plan : Plan) → LawfulTimelinesHold program plan }
+{
+    runs_are_steps();
+    commits_are_safe();
+    own_runs_go_on();
+    entries_tell();
+    earlier_runs_are_ordered();
+    commits_are_kept();
+    images_stand_for_one();
+    operations_are_safe();
+}
+
+/// A lawful timeline grows by the chunk that is chosen, and each chunk but a last one takes time.
+pub fn timelines_grow()
+    ensures { (plan : Plan) → TimelinesGrow plan }
+{}
+
+/// A board that is off with the first image, and the first working value, begin a lawful timeline, and belong together.
+pub fn starts_belong()
+    ensures { (program : Checked) (plan : Plan) → StartsBelong program plan }
+{
+    writes_are_local();
+    parts_are_apart();
+    slots_are_read_again();
+    images_stand_for_one();
+    own_runs_go_on();
+}

@@ -1,0 +1,40 @@
+//! A replay of what was prepared.
+
+ghost use Rattle.std.specs.Prelude.{◌≡◌, false};
+ghost use Rattle.recovery.specs.First.{IsFresh};
+ghost use Rattle.cn_scheduler.specs.EnginePoint.{point_of, IsFirst};
+ghost use Rattle.cn_runtime.specs.Working.{IsSetUp};
+ghost use Rattle.cn_runtime.specs.Claims.{IsReplayed};
+
+use crate::laws::starts_belong;
+use crate::replaying::replay_by;
+use cat_program::Program;
+use cn_scheduler::{End, Engine, Plan};
+use degradation::Chosen;
+use nv_memory::{Board, Device};
+
+/// A program with what was chosen and planned for it on a device, and an engine to run it.
+#[derive(Drop)]
+pub struct Prepared {
+    pub program: Program,
+    pub device: Device,
+    pub chosen: Chosen,
+    pub plan: Plan,
+    pub engine: Engine,
+}
+
+/// Runs a whole life: up to its end, or to a record that has no place in the log. The timeline is lawful, and after each of its entries
+/// the image stands for the reference run of its own entries and steps. Of what was prepared it changes the engine alone. It takes no
+/// memory.
+pub fn replay<B: Board>(prepared: &mut Prepared, board: &mut B) -> End
+    requires set_up { IsSetUp prepared.old.program prepared.old.plan }
+    requires first { IsFirst prepared.old.program prepared.old.plan.layout prepared.old.engine }
+    requires fresh { IsFresh prepared.old.program prepared.old.plan.layout (B.state board.old).image }
+    requires off { (B.state board.old).on ≡ false }
+    ensures replayed { IsReplayed prepared.old.program prepared.old.plan (point_of prepared.old.engine (B.state board.old)) result (B.state board.new) }
+    ensures others { prepared.new ≡ record prepared.old { engine = prepared.new.engine } }
+    ensures origin { B.origin board.new ≡ B.origin board.old }
+{
+    starts_belong();
+    replay_by(&mut prepared.engine, &prepared.plan, board)
+}

@@ -1,0 +1,15 @@
+pub mod Rows
+pub mod Words
+pub mod Kept
+pub mod Going
+pub mod Warranted
+pub mod Back
+pub mod Asking
+pub mod Committing
+pub mod Resting
+pub mod Recorded
+pub mod Sections
+pub mod Jobs
+pub mod Told
+pub mod Once
+pub mod Beginning

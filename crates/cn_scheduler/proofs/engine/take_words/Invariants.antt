@@ -1,0 +1,11 @@
+use Rattle.std.proofs.Common.{◌≡◌, ℕ, ◌<◌, length, get_or, pos}
+use Rattle.checkpoint_slots.specs.Slot.{variables_of}
+use Rattle.cn_scheduler.proofs.engine.take_words.Given as goal
+
+abbrev pub invariant-loop-w : goal.invariant-loop-w
+invariant-loop-w l =
+    record {
+      others : l.working ≡ record l.fn.working { words = l.working.words };
+      long : length l.working.words ≡ length l.fn.working.words;
+      below : (j : ℕ) → j < l.w → get_or l.working.words j (pos 0) ≡ get_or (variables_of l.slot) j (pos 0);
+    }

@@ -1,0 +1,12 @@
+pub mod InForce
+pub mod Point
+pub mod Policy
+pub mod Paths
+pub mod Asked
+pub mod Chunks
+pub mod Belongs
+pub mod EnginePoint
+pub mod Steps
+pub mod Warrants
+pub mod Parts
+pub mod Lawful

@@ -1,0 +1,3 @@
+pub mod Reference
+pub mod Own
+pub mod Laws
