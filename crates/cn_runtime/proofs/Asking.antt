@@ -16,8 +16,8 @@ use Rattle.nv_log.specs.declared.log.By.TheVariants as by
 use Rattle.nv_log.specs.Append.{append_op}
 use Rattle.nv_log.specs.Record.{EntryFits, IsOf}
 use Rattle.recovery.specs.Committed.{Committed, IsCommitted}
-use Rattle.standing.specs.Standing.{Spells, IsBehind}
-use Rattle.standing.specs.Laws.{OperationsAreSafe}
+use Rattle.image_meaning.specs.Standing.{Spells, IsBehind}
+use Rattle.image_meaning.specs.Laws.{OperationsAreSafe}
 use Rattle.cn_scheduler.specs.declared.engine.Chunk.{Chunk}
 use Rattle.cn_scheduler.specs.declared.engine.Chunk.TheVariants.{Ended, Dropped, Lost, Over, Full}
 use Rattle.cn_scheduler.specs.Paths.{Act}

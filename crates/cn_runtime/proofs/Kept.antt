@@ -23,11 +23,11 @@ use Rattle.event_queue.specs.declared.queue.Due.{Due}
 use Rattle.event_queue.specs.Queue.{IsDue, arrival_of}
 use Rattle.recovery.specs.Committed.{Committed, IsCommitted}
 use Rattle.reference_run.specs.Reference.{Moment, after_step, deadlines_of}
-use Rattle.own_runs.specs.Reference.{Setting}
-use Rattle.own_runs.specs.Own.{IsOwn, IsEarlier}
-use Rattle.own_runs.specs.Laws.{EarlierRunsAreOrdered, EntriesTell, OwnRunsGoOn, after_arrival, counts_of, last_start_of}
-use Rattle.standing.specs.Standing.{Spells, moment_of}
-use Rattle.standing.specs.Laws.{CommitsAreKept, OperationsAreSafe}
+use Rattle.logged_runs.specs.Reference.{Setting}
+use Rattle.logged_runs.specs.Own.{IsOwn, IsEarlier}
+use Rattle.logged_runs.specs.Laws.{EarlierRunsAreOrdered, EntriesTell, OwnRunsGoOn, after_arrival, counts_of, last_start_of}
+use Rattle.image_meaning.specs.Standing.{Spells, moment_of}
+use Rattle.image_meaning.specs.Laws.{CommitsAreKept, OperationsAreSafe}
 use Rattle.cn_scheduler.specs.declared.plan.Plan.{Plan}
 use Rattle.cn_scheduler.specs.declared.choice.Choice.TheVariants.{Job}
 use Rattle.cn_scheduler.specs.declared.engine.Chunk.{Chunk}

@@ -10,11 +10,11 @@ use Rattle.nv_memory.specs.Board.{State, IsDone, image_after, image_by, leaving}
 use Rattle.checkpoint_slots.specs.Commit.{commit_lines, commit_writes, gate_write, line_write, other_at}
 use Rattle.checkpoint_slots.specs.Writes.{CommitsAreSafe, IsUnderWay}
 use Rattle.recovery.specs.Committed.{Committed, IsCommitted}
-use Rattle.own_runs.specs.Reference.{Setting}
-use Rattle.own_runs.specs.Own.{IsOwn, IsEarlier}
-use Rattle.own_runs.specs.Laws.{EarlierRunsAreOrdered}
-use Rattle.standing.specs.Standing.{IsReady, Spells, moment_of}
-use Rattle.standing.specs.Laws.{CommitsAreKept, OperationsAreSafe}
+use Rattle.logged_runs.specs.Reference.{Setting}
+use Rattle.logged_runs.specs.Own.{IsOwn, IsEarlier}
+use Rattle.logged_runs.specs.Laws.{EarlierRunsAreOrdered}
+use Rattle.image_meaning.specs.Standing.{IsReady, Spells, moment_of}
+use Rattle.image_meaning.specs.Laws.{CommitsAreKept, OperationsAreSafe}
 use Rattle.cn_scheduler.specs.declared.engine.Chunk.{Chunk}
 use Rattle.cn_scheduler.specs.declared.engine.Chunk.TheVariants.{Ended, Dropped, Lost, Over, Full}
 use Rattle.cn_scheduler.specs.Asked.{Asked, plain}

@@ -12,10 +12,10 @@ use Rattle.checkpoint_slots.specs.Image.{committed_slot}
 use Rattle.recovery.specs.Committed.{IsCommitted}
 use Rattle.recovery.specs.First.{IsFirst, IsFresh}
 use Rattle.reference_run.specs.Reference.{Moment, first_moment}
-use Rattle.own_runs.specs.Own.{IsOwn}
-use Rattle.own_runs.specs.Laws.{OwnRunsGoOn}
-use Rattle.standing.specs.Standing.{moment_of}
-use Rattle.standing.specs.Laws.{ImagesStandForOne}
+use Rattle.logged_runs.specs.Own.{IsOwn}
+use Rattle.logged_runs.specs.Laws.{OwnRunsGoOn}
+use Rattle.image_meaning.specs.Standing.{moment_of}
+use Rattle.image_meaning.specs.Laws.{ImagesStandForOne}
 use Rattle.cn_scheduler.specs.declared.plan.Plan.{Plan}
 use Rattle.cn_scheduler.specs.Point.{Point, Work, work_of}
 use Rattle.cn_scheduler.specs.Belongs.{BelongTogether}

@@ -8,10 +8,10 @@ use Rattle.nv_memory.specs.declared.entry.Entry.{Entry}
 use Rattle.nv_memory.specs.Board.{State, image_after, image_by}
 use Rattle.recovery.specs.Committed.{Committed, IsCommitted}
 use Rattle.reference_run.specs.Reference.{Moment}
-use Rattle.own_runs.specs.Own.{IsEarlier, IsOwn}
-use Rattle.own_runs.specs.Laws.{last_start_of}
-use Rattle.standing.specs.Standing.{StandsFor, moment_of}
-use Rattle.standing.specs.Laws.{ImagesStandForOne}
+use Rattle.logged_runs.specs.Own.{IsEarlier, IsOwn}
+use Rattle.logged_runs.specs.Laws.{last_start_of}
+use Rattle.image_meaning.specs.Standing.{StandsFor, moment_of}
+use Rattle.image_meaning.specs.Laws.{ImagesStandForOne}
 use Rattle.cn_scheduler.specs.declared.plan.Plan.{Plan}
 use Rattle.cn_scheduler.specs.declared.choice.Choice.{Choice}
 use Rattle.cn_scheduler.specs.declared.choice.Choice.TheVariants.{Checkpoint, Job, Section, Sleep, Wake}

@@ -27,9 +27,9 @@ use Rattle.event_arrivals.specs.Next.{IsNext}
 use Rattle.event_arrivals.specs.declared.arrival.Arrival.{Arrival}
 use Rattle.recovery.specs.Committed.{Committed, IsCommitted, RestsAt}
 use Rattle.reference_run.specs.Reference.{Moment, after_step, entries_of, next_moment, with_handled}
-use Rattle.own_runs.specs.Own.{IsOwn}
-use Rattle.own_runs.specs.Laws.{EntriesTell, counts_of}
-use Rattle.standing.specs.Standing.{IsReady, Spells, moment_of}
+use Rattle.logged_runs.specs.Own.{IsOwn}
+use Rattle.logged_runs.specs.Laws.{EntriesTell, counts_of}
+use Rattle.image_meaning.specs.Standing.{IsReady, Spells, moment_of}
 use Rattle.event_queue.specs.declared.queue.Due.{Due}
 use Rattle.cn_scheduler.specs.declared.plan.Plan.{Plan}
 use Rattle.cn_scheduler.specs.declared.plan.PlanRow.{PlanRow}

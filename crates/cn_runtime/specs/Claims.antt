@@ -6,9 +6,9 @@ use Rattle.nv_memory.specs.Layout.{size_of}
 use Rattle.nv_memory.specs.Board.{State, image_by}
 use Rattle.checkpoint_slots.specs.Image.{committed_slot}
 use Rattle.reference_run.specs.Reference.{Moment}
-use Rattle.own_runs.specs.Own.{IsOwn, IsEarlier, AreServedOnce}
-use Rattle.own_runs.specs.Laws.{last_start_of}
-use Rattle.standing.specs.Standing.{StandsFor}
+use Rattle.logged_runs.specs.Own.{IsOwn, IsEarlier, AreServedOnce}
+use Rattle.logged_runs.specs.Laws.{last_start_of}
+use Rattle.image_meaning.specs.Standing.{StandsFor}
 use Rattle.cn_scheduler.specs.declared.plan.Plan.{Plan}
 use Rattle.cn_scheduler.specs.declared.choice.Choice.TheVariants.{Section}
 use Rattle.cn_scheduler.specs.declared.engine.Chunk.{Chunk}

@@ -6,10 +6,10 @@ use Rattle.cat_machine.specs.Code.{code_of}
 use Rattle.cat_machine.specs.Fits.{Corresponds}
 use Rattle.event_arrivals.specs.Spaced.{AreSpaced}
 use Rattle.reference_run.specs.Reference.{Moment}
-use Rattle.own_runs.specs.Reference.{Setting}
-use Rattle.own_runs.specs.Own.{IsOwn}
-use Rattle.own_runs.specs.Laws.{counts_of}
-use Rattle.standing.specs.Standing.{Spells}
+use Rattle.logged_runs.specs.Reference.{Setting}
+use Rattle.logged_runs.specs.Own.{IsOwn}
+use Rattle.logged_runs.specs.Laws.{counts_of}
+use Rattle.image_meaning.specs.Standing.{Spells}
 use Rattle.cn_scheduler.specs.declared.plan.Plan.{Plan}
 use Rattle.cn_scheduler.specs.declared.plan.PlanRow.{PlanRow}
 use Rattle.cn_scheduler.specs.InForce.{in_force}

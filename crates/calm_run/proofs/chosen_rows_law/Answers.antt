@@ -1,8 +1,0 @@
-use Rattle.calm_run.proofs.ChosenRows.{vector_rows, chosen_rows}
-use Rattle.calm_run.proofs.chosen_rows_law.Goals as goal
-
-pub returns-clause-vector : goal.returns-clause-vector
-returns-clause-vector c = vector_rows
-
-pub returns-clause-chosen : goal.returns-clause-chosen
-returns-clause-chosen c = chosen_rows

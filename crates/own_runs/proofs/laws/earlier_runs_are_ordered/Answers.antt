@@ -1,5 +1,0 @@
-use Rattle.own_runs.proofs.Goes.{itself, onward}
-use Rattle.own_runs.proofs.laws.earlier_runs_are_ordered.Goals as goal
-
-pub returns : goal.returns
-returns c = λ s. record { itself = itself s; onward = onward s }

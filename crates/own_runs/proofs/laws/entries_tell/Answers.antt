@@ -1,5 +1,0 @@
-use Rattle.own_runs.proofs.Tells.{entries_tell}
-use Rattle.own_runs.proofs.laws.entries_tell.Goals as goal
-
-pub returns : goal.returns
-returns c = entries_tell

@@ -1,0 +1,59 @@
+-- Deadlines of a run from its beginning on: what the log says of each event that is due in a calm stretch.
+use Rattle.std.specs.Prelude.{◌≡◌, ℕ, ◌+◌, ◌≤◌, List, ◌∷◌, ◌++◌, Some, slice_get, slice_index}
+use Rattle.cat_program.specs.Checked.{Checked}
+use Rattle.cat_program.specs.declared.outs.LogEntry.TheVariants.{Ran}
+use Rattle.nv_memory.specs.declared.device.Device.{Device}
+use Rattle.event_arrivals.specs.Arrivals.{arrival_at}
+use Rattle.event_arrivals.specs.declared.arrival.Arrival.{Arrival}
+use Rattle.cost_bounds.specs.BoundsValue.{BoundsValue}
+use Rattle.reference_run.specs.Reference.{Moment}
+use Rattle.logged_runs.specs.Reference.{version_for}
+use Rattle.image_meaning.specs.Standing.{StandsFor}
+use Rattle.cn_scheduler.specs.declared.plan.Plan.{Plan}
+use Rattle.cn_scheduler.specs.declared.plan.PlanRow.{PlanRow}
+use Rattle.cn_scheduler.specs.Point.{Point}
+use Rattle.cn_scheduler.specs.Chunks.{Link, IsLawful, point_after, entries_of}
+use Rattle.cn_scheduler.specs.Belongs.{BelongTogether}
+use Rattle.cn_runtime.specs.Working.{IsSetUp, setting_of}
+use Rattle.cn_runtime.specs.Claims.{Begins}
+use Rattle.calm_timeline.specs.Calm.{IsCalm}
+use Rattle.calm_timeline.specs.Claims.{IsServed, MeetsDeadlines}
+use Rattle.timely_commits.specs.Past.{Past, done_at}
+use Rattle.calm_timeline.specs.Numbers.{IsPlanned, IsFeasibleRow, IsBoardOf, AtEachPoint}
+
+-- An arrival's job ended by a tick. What the image has committed then tells it by one entry, in the version that is in force at its
+-- arrival, and the operation that committed this entry ended by the tick.
+pub record IsToldBy (program : Checked) (plan : Plan) (past : Past) (links : List Link) (event k d : ℕ) (arrival : Arrival) : Type 0 where
+  pub served : IsServed links event k d
+  pub moment : Moment
+  pub stands : StandsFor plan.layout program served.job.after.board.image moment
+  pub place : ℕ
+  pub steps : ℕ
+  pub begun : ℕ
+  pub entry : slice_get moment.entries place ≡ Some (Ran event (version_for (setting_of program plan) event arrival) steps begun k)
+  pub only : (i v n t : ℕ) → slice_get moment.entries i ≡ Some (Ran event v n t k) → i ≡ place
+  pub in_time : done_at past place ≤ d
+
+-- what a board went through from a point on
+abbrev pub past_of : Plan → Point → List Link → Past
+past_of plan first links = record { layout = plan.layout; first = first.board.image; timeline = entries_of links }
+
+-- all deadlines of a calm stretch are met, and the log tells each arrival that comes and is due in it
+pub record IsTimely (program : Checked) (plan : Plan) (past : Past) (row : PlanRow) (start : Point) (links : List Link) (z : ℕ) : Type 0 where
+  pub meets : MeetsDeadlines plan row start links z
+  pub told : (event k : ℕ) (arrival : Arrival) → arrival_at plan.queue.arrivals event k ≡ Some arrival → start.board.tick ≤ arrival.tick →
+      slice_index start.work.done event ≤ k → arrival.tick + slice_index plan.queue.deadlines event ≤ z →
+      IsToldBy program plan past links event k (arrival.tick + slice_index plan.queue.deadlines event) arrival
+
+-- so it is in every calm stretch, from whichever decision point on
+abbrev pub AreTimely : Checked → Device → BoundsValue → Plan → ℕ → Point → List Link → Type 0
+AreTimely program device b plan origin first links =
+    (before after : List Link) (chunk : Link) (row : PlanRow) (p q z : ℕ) → links ≡ before ++ chunk ∷ after → IsFeasibleRow b device p q row →
+    IsCalm device plan row p q origin (point_after first before) (chunk ∷ after) z → IsTimely program plan (past_of plan first links) row (point_after first before) (chunk ∷ after) z
+
+-- the calm stretches of every run from its beginning on
+abbrev pub TimelyLaw : Type 0
+TimelyLaw =
+    (program : Checked) (device : Device) (b : BoundsValue) (plan : Plan) (origin : ℕ) (first : Point) (links : List Link) →
+    IsPlanned program device b plan → IsSetUp program plan → Begins program plan first → IsBoardOf device origin first.board → IsLawful plan first links →
+    AtEachPoint (BelongTogether program plan) first links → AreTimely program device b plan origin first links
