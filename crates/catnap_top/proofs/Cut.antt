@@ -140,7 +140,6 @@ looks_cut (Run steps) files = then_leads _ _ _ _ (at_place program_in program_cu
 looks_cut Listing files = then_leads _ _ _ _ (at_place program_in program_cut files 0) (λ p came h. h)
 looks_cut Check files =
     then_leads _ _ _ _ (at_place program_in program_cut files 0) (λ p. then_leads _ _ _ _ (at_place device_in device_cut files 1) (λ d came h. h))
-
 looks_cut Replay files =
     then_leads _ _ _ _
     (then_leads _ _ _ _ (at_place program_in program_cut files 0)

@@ -28,7 +28,7 @@ use Rattle.cn_scheduler.specs.Point.{Point}
 use Rattle.cn_scheduler.specs.Chunks.{entries_of}
 use Rattle.cn_runtime.specs.declared.refused.PrepareFault.{PrepareFault}
 use Rattle.cn_runtime.specs.declared.refused.PrepareFault.TheVariants as prepare
-use Rattle.cn_runtime.specs.Claims.{IsReplayed}
+use Rattle.lawful_timeline.specs.Claims.{IsReplayed}
 use Rattle.cn_runtime.specs.Planned.{IsChosenFor, IsPlanFor, IsPrepared, IsRefused}
 use Rattle.cn_runtime.specs.declared.prepared.Prepared.{Prepared}
 use Rattle.checkpoint_slots.specs.Slot.{IsMadeFor}
@@ -161,9 +161,9 @@ tells r files before trace failures device is t f d h =
     let b = h.begun in
     let stored : (origin_of h.first).stored ≡ files.device.start = b.stored_is ∙ ap (λ (x : Device). x.start) d in
     let l = looks files before r.prepared.engine (origin_of h.first) (state_of h.first) r.board r.end r.shadow is h.same b.state_is (b.trace_is ∙ t) (b.fails_are ∙ f)
-            (b.device_is ∙ d) b.tick_is stored b.fresh h.replayed h.reached h.made in
+    (b.device_is ∙ d) b.tick_is stored b.fresh h.replayed h.reached h.made in
     let w = ready files before r.prepared.engine (origin_of h.first) (state_of h.first) r.board r.end r.shadow is h.same b.state_is (b.trace_is ∙ t) (b.fails_are ∙ f)
-            (b.device_is ∙ d) b.tick_is stored b.fresh h.replayed h.reached h.made in
+    (b.device_is ∙ d) b.tick_is stored b.fresh h.replayed h.reached h.made in
     let back : (record before { engine = r.prepared.engine }) ≡ r.prepared = sym h.others in (
       subst (λ (p : Prepared). living files (Ok (replayed_answer (record { prepared = p; board = r.board; end = r.end; shadow = r.shadow })))) back l,
       subst (λ (p : Prepared). IsReadyToTell (record { prepared = p; board = r.board; end = r.end; shadow = r.shadow })) back w,

@@ -82,7 +82,6 @@ module _ (source : (bytes : List ℕ) → Agree IsSameProgram (IsSource bytes) (
         (λ p q are. then_agree (λ d e. d ≡ e) (λ a b. a ≡ b) _ _ _ _ (devices (get_or files 1 []))
         (λ d e same. then_agree (λ x y. x ≡ y) (λ a b. a ≡ b) _ _ _ _ (versions p q d e are same)
         (λ x y equal. found_agree (λ a b. a ≡ b) _ _ (checked_same p q x y are.same equal))))
-
     one_looks Replay files one =
         then_agree AreSameFiles (λ a b. a ≡ b) _ _ _ _ (files_agree (get_or files 0 []) (get_or files 1 []) (get_or files 2 []) (get_or files 3 []) (get_or files 4 []))
         (λ x y same. then_agree (λ c e. c ≡ e) (λ a b. a ≡ b) _ _ _ _ (versions x.program y.program x.device y.device same.program same.device)

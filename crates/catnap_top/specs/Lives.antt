@@ -11,9 +11,9 @@ use Rattle.cn_scheduler.specs.declared.engine.End.TheVariants.{TraceEnded, LogFu
 use Rattle.cn_scheduler.specs.declared.plan.Plan.{Plan}
 use Rattle.cn_scheduler.specs.Point.{Point}
 use Rattle.cn_scheduler.specs.Chunks.{Link, IsLawful, point_after}
-use Rattle.cn_runtime.specs.Claims.{EndsAs, last_outcome}
+use Rattle.lawful_timeline.specs.Claims.{EndsAs, last_outcome}
 use Rattle.cn_runtime.specs.Planned.{IsPlanFor}
-use Rattle.cn_runtime.specs.Starting.{first_work}
+use Rattle.lawful_timeline.specs.Starting.{first_work}
 use Rattle.cn_report.specs.Past.{past_of}
 use Rattle.cn_report.specs.Whole.{report_text}
 use Rattle.catnap_top.specs.declared.files.ReplayFiles.{ReplayFiles}

@@ -6,7 +6,7 @@ use Rattle.nv_memory.specs.declared.device.Device.{Device}
 use Rattle.recovery.specs.First.{IsFresh}
 use Rattle.cn_scheduler.specs.EnginePoint.{point_of}
 use Rattle.cn_runtime.specs.declared.prepared.Prepared.{Prepared}
-use Rattle.cn_runtime.specs.Claims.{IsReplayed as Ran}
+use Rattle.lawful_timeline.specs.Claims.{IsReplayed as Ran}
 use Rattle.board_core.specs.declared.model_board.ModelBoard.{ModelBoard}
 use Rattle.checkpoint_slots.specs.Slot.{IsMadeFor}
 use Rattle.degradation.specs.Choice.{Suits}

@@ -11,7 +11,7 @@ ghost use Rattle.catnap_top.specs.Replayed.{replayed_answer, HasBegun, HasEnded,
 ghost use Rattle.checkpoint_slots.specs.Slot.{IsMadeFor};
 ghost use Rattle.cn_scheduler.specs.Belongs.{IsLayoutOf};
 ghost use Rattle.cn_scheduler.specs.EnginePoint.{IsFirst};
-ghost use Rattle.cn_runtime.specs.Working.{IsSetUp};
+ghost use Rattle.lawful_timeline.specs.Working.{IsSetUp};
 ghost use Rattle.catnap_top.specs.Reply.{reply_answer, CanBeWritten};
 
 use crate::Status;
@@ -20,12 +20,12 @@ use crate::files::{ReplayFiles, replay_files};
 use crate::reply::Reply;
 use crate::stop::Stop;
 use board_core::ModelBoard;
+use checkpoint_slots::slots_are_read_again;
 use cn_base::{NoMemory, Sink, WriteFail};
 use cn_report::{Shadow, write_report};
 use cn_runtime::{PrepareFault, Prepared, prepare, replay};
 use cn_scheduler::End;
 use harvest_trace::{Fails, Trace};
-use checkpoint_slots::slots_are_read_again;
 use nv_memory::{Device, parts_are_apart, writes_are_local};
 use recovery::fresh_image;
 use std::alloc::Global;

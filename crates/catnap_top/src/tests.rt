@@ -177,9 +177,15 @@ fn looks_at_the_files_of_a_replay_in_order(rt: HostRuntime) -> Result<(), Fail> 
         ([S1, "", "", "", ""], "fault device key cap\n"),
         ([S1, profile, "", "", ""], "fault trace 0 Header\n"),
         ([S1, profile, trace, "", ""], "fault arrivals 0 Header\n"),
-        ([S1, profile, trace, "tick,event,payload\n3,tap,1\n", ""], "fault arrivals 1 Name\n"),
+        (
+            [S1, profile, trace, "tick,event,payload\n3,tap,1\n", ""],
+            "fault arrivals 1 Name\n",
+        ),
         ([S1, profile, trace, arrivals, ""], "fault fails 0 Header\n"),
-        ([S1, profile, trace, arrivals, "tick,fill\n5,00\n5,00\n"], "fault fails 2 Order\n"),
+        (
+            [S1, profile, trace, arrivals, "tick,fill\n5,00\n5,00\n"],
+            "fault fails 2 Order\n",
+        ),
     ] {
         let sink = refusal(rt.alloc(), files)?;
         assert_eq!(rt; sink.bytes(), text.as_bytes());

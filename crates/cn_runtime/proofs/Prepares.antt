@@ -7,9 +7,9 @@ use Rattle.reference_run.specs.Reference.{Moment}
 use Rattle.cn_scheduler.specs.declared.plan.Plan.{Plan}
 use Rattle.cn_scheduler.specs.Point.{Point, Work}
 use Rattle.cn_scheduler.specs.Belongs.{BelongTogether}
-use Rattle.cn_runtime.specs.Working.{IsSetUp}
-use Rattle.cn_runtime.specs.Claims.{Begins}
-use Rattle.cn_runtime.specs.Starting.{StartsBelong, StartsFresh}
+use Rattle.lawful_timeline.specs.Working.{IsSetUp}
+use Rattle.lawful_timeline.specs.Claims.{Begins}
+use Rattle.lawful_timeline.specs.Starting.{StartsBelong, StartsFresh}
 
 -- it has taken no steps
 no_steps : (program : Checked) (plan : Plan) (p : Point) → StartsFresh program plan p → (b : Begins program plan p) → b.moment.steps ≡ 0

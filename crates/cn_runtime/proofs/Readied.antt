@@ -28,7 +28,7 @@ use Rattle.cn_scheduler.specs.declared.plan.Plan.{Plan}
 use Rattle.cn_scheduler.specs.declared.plan.PlanRow.{PlanRow}
 use Rattle.cn_scheduler.specs.Belongs.{IsPlanOf, IsRowOf, IsLayoutOf as HasCounts}
 use Rattle.cn_runtime.specs.Planned.{deadlines_in, fault_of, row_of, IsChosenFor, IsPlanFor, IsPrepared, IsRefused}
-use Rattle.cn_runtime.specs.Working.{IsSetUp}
+use Rattle.lawful_timeline.specs.Working.{IsSetUp}
 
 -- what is kept back beside one job of each event, a checkpoint, a section and a wake is within what the store holds
 row_fits : (program : Checked) (b : BoundsValue) (device : Device) (lines : ℕ) (chosen : Chosen) → IsChoice program b device (supply_of device) lines chosen

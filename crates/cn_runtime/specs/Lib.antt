@@ -1,5 +1,1 @@
-pub mod Claims
-pub mod Lines
-pub mod Starting
-pub mod Working
 pub mod Planned

@@ -20,7 +20,7 @@ use Rattle.cn_scheduler.specs.EnginePoint.{IsFirst}
 use Rattle.cn_runtime.specs.declared.prepared.Prepared.{Prepared}
 use Rattle.cn_runtime.specs.declared.refused.PrepareFault.{PrepareFault}
 use Rattle.cn_runtime.specs.declared.refused.PrepareFault.TheVariants.{WindowTooLong, Rejected, NoMemory}
-use Rattle.cn_runtime.specs.Working.{IsSetUp}
+use Rattle.lawful_timeline.specs.Working.{IsSetUp}
 
 -- the deadline of each event
 abbrev pub deadlines_in : List Event → List ℕ

@@ -3,14 +3,14 @@
 ghost use Rattle.std.specs.Prelude.{◌≡◌, false};
 ghost use Rattle.recovery.specs.First.{IsFresh};
 ghost use Rattle.cn_scheduler.specs.EnginePoint.{point_of, IsFirst};
-ghost use Rattle.cn_runtime.specs.Working.{IsSetUp};
-ghost use Rattle.cn_runtime.specs.Claims.{IsReplayed};
+ghost use Rattle.lawful_timeline.specs.Working.{IsSetUp};
+ghost use Rattle.lawful_timeline.specs.Claims.{IsReplayed};
 
-use crate::laws::starts_belong;
 use crate::replaying::replay_by;
 use cat_program::Program;
 use cn_scheduler::{End, Engine, Plan};
 use degradation::Chosen;
+use lawful_timeline::starts_belong;
 use nv_memory::{Board, Device};
 
 /// A program with what was chosen and planned for it on a device, and an engine to run it.

@@ -2,11 +2,11 @@
 
 ghost use Rattle.std.specs.Prelude.{◌≡◌, false};
 ghost use Rattle.cat_program.specs.Checked.{Checked};
-ghost use Rattle.cn_runtime.specs.Working.{IsSetUp};
-ghost use Rattle.cn_runtime.specs.Claims.{Begins, IsReplayed};
+ghost use Rattle.lawful_timeline.specs.Working.{IsSetUp};
+ghost use Rattle.lawful_timeline.specs.Claims.{Begins, IsReplayed};
 
-use crate::laws::{lawful_timelines_hold, timelines_grow};
 use cn_scheduler::{Chunk, End, Plan};
+use lawful_timeline::{lawful_timelines_hold, timelines_grow};
 use nv_memory::Board;
 
 /// What takes turns with a board: at each decision point the chunk that the policy names, or ticks of sleep one after the other. The
@@ -16,7 +16,7 @@ pub trait Turns {
     ghost use Rattle.cn_scheduler.specs.declared.plan.Plan.{Plan as Planned};
     ghost use Rattle.cn_scheduler.specs.Point.{Point};
     ghost use Rattle.cn_scheduler.specs.Chunks.{is_last};
-    ghost use Rattle.cn_runtime.specs.Lines.{Turned};
+    ghost use Rattle.lawful_timeline.specs.Lines.{Turned};
 
     /// The decision point at which it stands with a board.
     ghost point: { Self → State → Point };

@@ -31,8 +31,8 @@ use Rattle.cn_scheduler.specs.declared.plan.Plan.{Plan}
 use Rattle.cn_scheduler.specs.Point.{Point}
 use Rattle.cn_scheduler.specs.Chunks.{Link, IsLawful, is_last, point_after, entries_of}
 use Rattle.cn_scheduler.specs.Belongs.{BelongTogether, IsPlanOf}
-use Rattle.cn_runtime.specs.Working.{IsSetUp, setting_of}
-use Rattle.cn_runtime.specs.Claims.{Begins, EachPoint, IsAtWork, LawfulTimelinesHold}
+use Rattle.lawful_timeline.specs.Working.{IsSetUp, setting_of}
+use Rattle.lawful_timeline.specs.Claims.{Begins, EachPoint, IsAtWork, LawfulTimelinesHold}
 use Rattle.calm_timeline.specs.Calm.{board_after}
 use Rattle.calm_timeline.specs.Claims.{IsServed}
 use Rattle.calm_timeline.specs.Numbers.{IsPlanned, AtEachPoint, DoneHasCome}

@@ -14,8 +14,8 @@ use Rattle.cn_scheduler.specs.declared.plan.PlanRow.{PlanRow}
 use Rattle.cn_scheduler.specs.Point.{Point}
 use Rattle.cn_scheduler.specs.Chunks.{Link, IsLawful, point_after, entries_of}
 use Rattle.cn_scheduler.specs.Belongs.{BelongTogether}
-use Rattle.cn_runtime.specs.Working.{IsSetUp, setting_of}
-use Rattle.cn_runtime.specs.Claims.{Begins}
+use Rattle.lawful_timeline.specs.Working.{IsSetUp, setting_of}
+use Rattle.lawful_timeline.specs.Claims.{Begins}
 use Rattle.calm_timeline.specs.Calm.{IsCalm}
 use Rattle.calm_timeline.specs.Claims.{IsServed, MeetsDeadlines}
 use Rattle.timely_commits.specs.Past.{Past, done_at}

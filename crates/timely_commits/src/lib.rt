@@ -5,8 +5,8 @@ ghost use Rattle.timely_commits.specs.Past.{CommitsInTime};
 ghost use Rattle.timely_commits.specs.Timely.{TimelyLaw};
 
 use calm_timeline::{calm_law, entries_end_law};
-use cn_runtime::lawful_timelines_hold;
 use event_arrivals::arrivals_are_counted;
+use lawful_timeline::lawful_timelines_hold;
 use logged_runs::{own_runs_go_on, own_runs_handle_arrivals};
 
 /// In every calm stretch of a run from its beginning on no operation is lost, there is always enough for what is pending, and each

@@ -26,14 +26,14 @@ returns-in-Err-parse c =
 pub returns-in-Ok-check : goal.returns-in-Ok-check
 returns-in-Ok-check c =
     fits c.in-Ok-check.program (record {
-  within = omega arith;
-  tokens = c.in-Ok.found.items;
-  lexed = c.in-Ok.ensures.tokens;
-  tree = c.in-Ok-parse.tree;
-  spelled = subst (λ ts. Spells (lexemes c.args.source.now ts) c.in-Ok-parse.tree.items) c.as_slice.ensures.value c.in-Ok-parse.ensures.tree;
-  checked = c.in-Ok-check.ensures.verdict;
-  program = c.in-Ok-check.ensures.program;
-}) refl
+      within = omega arith;
+      tokens = c.in-Ok.found.items;
+      lexed = c.in-Ok.ensures.tokens;
+      tree = c.in-Ok-parse.tree;
+      spelled = subst (λ ts. Spells (lexemes c.args.source.now ts) c.in-Ok-parse.tree.items) c.as_slice.ensures.value c.in-Ok-parse.ensures.tree;
+      checked = c.in-Ok-check.ensures.verdict;
+      program = c.in-Ok-check.ensures.program;
+    }) refl
 
 pub returns : goal.returns
 returns c =

@@ -1,7 +1,7 @@
 use Rattle.std.proofs.Common.{refl, ◌∙◌}
 use Rattle.cn_scheduler.specs.declared.engine.Chunk.TheVariants.{Ended, Dropped, Lost, Over, Full}
 use Rattle.cn_scheduler.specs.declared.engine.End.TheVariants.{TraceEnded, LogFull}
-use Rattle.cn_runtime.proofs.Turning.{less_time, replayed}
+use Rattle.cn_runtime.proofs.Turned.{less_time, replayed}
 use Rattle.cn_runtime.proofs.replaying.replay_by.Goals as goal
 
 pub turns-init : goal.turns-init
@@ -14,7 +14,7 @@ turns-init g c = record {
 
 pub turns-smaller-in-Ended : goal.turns-smaller-in-Ended
 turns-smaller-in-Ended g c =
-    less_time c.args.plan.now (g.T.Turns.point c.turns.turns (g.B.Board.state c.turns.board)) (g.T.Turns.point c.turn-outcome.new.self (g.B.Board.state c.turn-outcome.new.board)) Ended (g.B.Board.state c.turns.board) (g.B.Board.state c.turn-outcome.new.board)
+    less_time c.args.plan.now (c.timelines_grow.ensures c.args.plan.now) (g.T.Turns.point c.turns.turns (g.B.Board.state c.turns.board)) (g.T.Turns.point c.turn-outcome.new.self (g.B.Board.state c.turn-outcome.new.board)) Ended (g.B.Board.state c.turns.board) (g.B.Board.state c.turn-outcome.new.board)
     (g.B.Board.start (g.B.Board.origin c.turns.board)) (g.B.Board.start (g.B.Board.origin c.turn-outcome.new.board)) (g.met.T.Turns.stands c.turns.turns (g.B.Board.state c.turns.board)) (g.met.T.Turns.stands c.turn-outcome.new.self (g.B.Board.state c.turn-outcome.new.board))
     c.turns.invariant.sound c.tick-tick-in-turns.ensures.sound refl c.in-Ended.ensures.turned
 
@@ -28,7 +28,7 @@ turns-preserved-in-Ended g c = record {
 
 pub turns-smaller-in-Dropped : goal.turns-smaller-in-Dropped
 turns-smaller-in-Dropped g c =
-    less_time c.args.plan.now (g.T.Turns.point c.turns.turns (g.B.Board.state c.turns.board)) (g.T.Turns.point c.turn-outcome.new.self (g.B.Board.state c.turn-outcome.new.board)) Dropped (g.B.Board.state c.turns.board) (g.B.Board.state c.turn-outcome.new.board)
+    less_time c.args.plan.now (c.timelines_grow.ensures c.args.plan.now) (g.T.Turns.point c.turns.turns (g.B.Board.state c.turns.board)) (g.T.Turns.point c.turn-outcome.new.self (g.B.Board.state c.turn-outcome.new.board)) Dropped (g.B.Board.state c.turns.board) (g.B.Board.state c.turn-outcome.new.board)
     (g.B.Board.start (g.B.Board.origin c.turns.board)) (g.B.Board.start (g.B.Board.origin c.turn-outcome.new.board)) (g.met.T.Turns.stands c.turns.turns (g.B.Board.state c.turns.board)) (g.met.T.Turns.stands c.turn-outcome.new.self (g.B.Board.state c.turn-outcome.new.board))
     c.turns.invariant.sound c.tick-tick-in-turns.ensures.sound refl c.in-Dropped.ensures.turned
 
@@ -42,7 +42,7 @@ turns-preserved-in-Dropped g c = record {
 
 pub turns-smaller : goal.turns-smaller
 turns-smaller g c =
-    less_time c.args.plan.now (g.T.Turns.point c.turns.turns (g.B.Board.state c.turns.board)) (g.T.Turns.point c.turn-outcome.new.self (g.B.Board.state c.turn-outcome.new.board)) Lost (g.B.Board.state c.turns.board) (g.B.Board.state c.turn-outcome.new.board)
+    less_time c.args.plan.now (c.timelines_grow.ensures c.args.plan.now) (g.T.Turns.point c.turns.turns (g.B.Board.state c.turns.board)) (g.T.Turns.point c.turn-outcome.new.self (g.B.Board.state c.turn-outcome.new.board)) Lost (g.B.Board.state c.turns.board) (g.B.Board.state c.turn-outcome.new.board)
     (g.B.Board.start (g.B.Board.origin c.turns.board)) (g.B.Board.start (g.B.Board.origin c.turn-outcome.new.board)) (g.met.T.Turns.stands c.turns.turns (g.B.Board.state c.turns.board)) (g.met.T.Turns.stands c.turn-outcome.new.self (g.B.Board.state c.turn-outcome.new.board))
     c.turns.invariant.sound c.tick-tick-in-turns.ensures.sound refl c.in-Lost.ensures.turned
 

@@ -3,7 +3,7 @@ use Rattle.cn_base.specs.declared.TheConstants.{MOST_TICKS}
 use Rattle.cn_scheduler.specs.declared.engine.Chunk.{Chunk}
 use Rattle.cn_scheduler.specs.Chunks.{is_last}
 use Rattle.nv_memory.specs.Board.{IsSound}
-use Rattle.cn_runtime.specs.Lines.{Reaches}
+use Rattle.lawful_timeline.specs.Lines.{Reaches}
 use Rattle.cn_runtime.proofs.replaying.replay_by.Given as goal
 
 -- a lawful timeline leads here, which may go on

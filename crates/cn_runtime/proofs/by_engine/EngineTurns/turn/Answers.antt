@@ -1,5 +1,5 @@
 use Rattle.cn_scheduler.specs.declared.choice.Choice.TheVariants.{Job, Section, Checkpoint, Wake}
-use Rattle.cn_runtime.specs.Lines.Turned.{Did}
+use Rattle.lawful_timeline.specs.Lines.Turned.{Did}
 use Rattle.cn_runtime.proofs.Engines.{goes_on}
 use Rattle.cn_runtime.proofs.by_engine.EngineTurns.turn.Goals as goal
 

@@ -39,12 +39,12 @@ use Rattle.cn_scheduler.specs.Policy.{Chooses}
 use Rattle.cn_scheduler.specs.Asked.{Asked, path_asks, plain, recording}
 use Rattle.cn_scheduler.specs.Chunks.{AreFit, CheckpointDoes, Commits, JobAsks, JobDoes, Leaves, SectionDoes, SleepDoes, WakeDoes, after_job, after_section, is_last, job_asks, no_floor, ran_of, task_limits, wake_asks}
 use Rattle.cn_scheduler.specs.Chunks.JobAsks.{Early, Late}
-use Rattle.cn_runtime.specs.Working.{IsSetUp, setting_of}
-use Rattle.cn_runtime.proofs.Outputs.{IsPutOut, handler_is_quiet, run_puts_out}
-use Rattle.cn_runtime.proofs.Asking.{EachBehind, Left, asked_left, asked_parts, behind-append, path_behind, path_spells, record_spells}
-use Rattle.cn_runtime.proofs.Saving.{Grows, Saved, grows-append, grows_along, image_by-append, saved}
-use Rattle.cn_runtime.proofs.Works.{Holds, committed_holds, handled_at, handler_outs, job_holds, known, next_again, ready_of, section_holds, section_next, shape_of, value_moment, value_of, version_same}
-use Rattle.cn_runtime.proofs.Policies.{chosen_due, never_dropped}
+use Rattle.lawful_timeline.specs.Working.{IsSetUp, setting_of}
+use Rattle.lawful_timeline.proofs.Outputs.{IsPutOut, handler_is_quiet, run_puts_out}
+use Rattle.lawful_timeline.proofs.Asking.{EachBehind, Left, asked_left, asked_parts, behind-append, path_behind, path_spells, record_spells}
+use Rattle.lawful_timeline.proofs.Saving.{Grows, Saved, grows-append, grows_along, image_by-append, saved}
+use Rattle.lawful_timeline.proofs.Works.{Holds, committed_holds, handled_at, handler_outs, job_holds, known, next_again, ready_of, section_holds, section_next, shape_of, value_moment, value_of, version_same}
+use Rattle.lawful_timeline.proofs.Policies.{chosen_due, never_dropped}
 
 -- what the proofs stand on
 pub record Laws (program : Checked) (plan : Plan) : Type 0 where

@@ -20,13 +20,13 @@ use Rattle.cn_scheduler.specs.InForce.{floor_at}
 use Rattle.cn_scheduler.specs.Point.{Point, Work, work_of}
 use Rattle.cn_scheduler.specs.Policy.{Chooses}
 use Rattle.cn_scheduler.specs.Chunks.{Does, IsChunk, IsLawful, Link, entries_of, is_last, point_after}
-use Rattle.cn_runtime.specs.Working.{IsSetUp, WorksAs, setting_of}
-use Rattle.cn_runtime.specs.Claims.{AreAbove, Begins, EachPoint, IsAtWork, HoldsThroughout, KeepsFloor, NeverFalls}
-use Rattle.cn_runtime.proofs.Asking.{Left}
-use Rattle.cn_runtime.proofs.Saving.{Grows, grows-append, image_by-append}
-use Rattle.cn_runtime.proofs.Works.{Holds, committed_holds}
-use Rattle.cn_runtime.proofs.Policies.{chosen_clean}
-use Rattle.cn_runtime.proofs.Kept.{Kept, Laws, Next, Sound, kept_checkpoint, kept_job, kept_section, kept_sleep, kept_wake, no_path, section_left}
+use Rattle.lawful_timeline.specs.Working.{IsSetUp, WorksAs, setting_of}
+use Rattle.lawful_timeline.specs.Claims.{AreAbove, Begins, EachPoint, IsAtWork, HoldsThroughout, KeepsFloor, NeverFalls}
+use Rattle.lawful_timeline.proofs.Asking.{Left}
+use Rattle.lawful_timeline.proofs.Saving.{Grows, grows-append, image_by-append}
+use Rattle.lawful_timeline.proofs.Works.{Holds, committed_holds}
+use Rattle.lawful_timeline.proofs.Policies.{chosen_clean}
+use Rattle.lawful_timeline.proofs.Kept.{Kept, Laws, Next, Sound, kept_checkpoint, kept_job, kept_section, kept_sleep, kept_wake, no_path, section_left}
 
 module _ (program : Checked) (plan : Plan) (laws : Laws program plan) (set_up : IsSetUp program plan) (one : ImagesStandForOne plan.layout program) where
   -- ---- the images of a chain

@@ -1,6 +1,6 @@
-use Rattle.cn_runtime.specs.Working.{setting_of}
-use Rattle.cn_runtime.proofs.Starts.{begins, belong}
-use Rattle.cn_runtime.proofs.laws.starts_belong.Goals as goal
+use Rattle.lawful_timeline.specs.Working.{setting_of}
+use Rattle.lawful_timeline.proofs.Starts.{begins, belong}
+use Rattle.lawful_timeline.proofs.laws.starts_belong.Goals as goal
 
 pub returns : goal.returns
 returns c = λ program plan. record {

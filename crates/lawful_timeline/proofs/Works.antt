@@ -37,7 +37,7 @@ use Rattle.cn_scheduler.specs.InForce.{in_force, version_in, version_of}
 use Rattle.cn_scheduler.specs.Paths.{last_outs, run_outs}
 use Rattle.cn_scheduler.specs.Point.{FitsSlot, Work, held_of, slot_of, work_of}
 use Rattle.cn_scheduler.specs.Chunks.{after_job, after_section}
-use Rattle.cn_runtime.specs.Working.{IsSetUp, WorksAs, setting_of, versions_at, versions_in}
+use Rattle.lawful_timeline.specs.Working.{IsSetUp, WorksAs, setting_of, versions_at, versions_in}
 
 -- ---- places and lists
 

@@ -18,7 +18,7 @@ use Rattle.image_meaning.specs.Laws.{CommitsAreKept, OperationsAreSafe}
 use Rattle.cn_scheduler.specs.declared.engine.Chunk.{Chunk}
 use Rattle.cn_scheduler.specs.declared.engine.Chunk.TheVariants.{Ended, Dropped, Lost, Over, Full}
 use Rattle.cn_scheduler.specs.Asked.{Asked, plain}
-use Rattle.cn_runtime.proofs.Asking.{Along, Went, limits_with, went_done, went_lost}
+use Rattle.lawful_timeline.proofs.Asking.{Along, Went, limits_with, went_done, went_lost}
 
 -- after each entry the image has committed a moment of a run of its own, an earlier one of the next
 abbrev pub Grows : Layout → Setting → Committed → List ℕ → List Entry → Committed → Type 0

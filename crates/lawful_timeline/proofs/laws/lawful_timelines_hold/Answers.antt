@@ -1,6 +1,6 @@
-use Rattle.cn_runtime.specs.Working.{setting_of}
-use Rattle.cn_runtime.proofs.Whole.{holds_throughout}
-use Rattle.cn_runtime.proofs.laws.lawful_timelines_hold.Goals as goal
+use Rattle.lawful_timeline.specs.Working.{setting_of}
+use Rattle.lawful_timeline.proofs.Whole.{holds_throughout}
+use Rattle.lawful_timeline.proofs.laws.lawful_timelines_hold.Goals as goal
 
 pub returns : goal.returns
 returns c = λ program plan. record {

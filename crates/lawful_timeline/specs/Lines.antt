@@ -8,7 +8,7 @@ use Rattle.cn_scheduler.specs.declared.engine.Chunk.TheVariants.{Ended}
 use Rattle.cn_scheduler.specs.Point.{Point}
 use Rattle.cn_scheduler.specs.Policy.{Chooses}
 use Rattle.cn_scheduler.specs.Chunks.{Does, IsLawful, Link, SleepsOn, is_last, point_after}
-use Rattle.cn_runtime.specs.Claims.{last_outcome}
+use Rattle.lawful_timeline.specs.Claims.{last_outcome}
 
 -- another chunk may come after each of these
 abbrev pub NoneIsLast : List Link → Type 0

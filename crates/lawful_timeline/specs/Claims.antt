@@ -17,7 +17,7 @@ use Rattle.cn_scheduler.specs.declared.engine.End.{End}
 use Rattle.cn_scheduler.specs.declared.engine.End.TheVariants.{TraceEnded, LogFull}
 use Rattle.cn_scheduler.specs.Point.{Point, work_of}
 use Rattle.cn_scheduler.specs.Chunks.{Link, IsLawful, entries_of, is_last, point_after, task_limits}
-use Rattle.cn_runtime.specs.Working.{IsSetUp, WorksAs, setting_of}
+use Rattle.lawful_timeline.specs.Working.{IsSetUp, WorksAs, setting_of}
 
 -- a board that is off, whose image stands for a run of its own that handled nothing later than now
 pub record Begins (program : Checked) (plan : Plan) (p : Point) : Type 0 where

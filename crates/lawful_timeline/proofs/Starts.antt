@@ -19,10 +19,10 @@ use Rattle.image_meaning.specs.Laws.{ImagesStandForOne}
 use Rattle.cn_scheduler.specs.declared.plan.Plan.{Plan}
 use Rattle.cn_scheduler.specs.Point.{Point, Work, work_of}
 use Rattle.cn_scheduler.specs.Belongs.{BelongTogether}
-use Rattle.cn_runtime.specs.Working.{IsSetUp, setting_of}
-use Rattle.cn_runtime.specs.Claims.{Begins}
-use Rattle.cn_runtime.specs.Starting.{StartsFresh, first_work}
-use Rattle.cn_runtime.proofs.Works.{Holds, committed_holds, from_stands, shape_of}
+use Rattle.lawful_timeline.specs.Working.{IsSetUp, setting_of}
+use Rattle.lawful_timeline.specs.Claims.{Begins}
+use Rattle.lawful_timeline.specs.Starting.{StartsFresh, first_work}
+use Rattle.lawful_timeline.proofs.Works.{Holds, committed_holds, from_stands, shape_of}
 
 module _ (program : Checked) (plan : Plan) (writes : WritesAreLocal) (parts : PartsAreApart plan.layout) (long : (s : Slot) → length (spelling plan.layout s) ≡ 64 * lines_of plan.layout)
     (one : ImagesStandForOne plan.layout program) (go_on : OwnRunsGoOn (setting_of program plan)) where

@@ -18,8 +18,8 @@ use Rattle.cn_scheduler.specs.Asked.{Ask, Asked, Limits, plain}
 use Rattle.cn_scheduler.specs.Chunks.{Does, IsChunk, IsLawful, JobAsks, Link, SleepsOn, is_last, job_asks, no_floor, point_after, task_limits}
 use Rattle.cn_scheduler.specs.Chunks.JobAsks.{Early, Late}
 use Rattle.cn_scheduler.specs.Chunks.SleepsOn.{Last_tick, Further}
-use Rattle.cn_runtime.specs.Claims.{last_outcome}
-use Rattle.cn_runtime.specs.Lines.{NoneIsLast, Reaches}
+use Rattle.lawful_timeline.specs.Claims.{last_outcome}
+use Rattle.lawful_timeline.specs.Lines.{NoneIsLast, Reaches}
 
 -- ---- what is asked is told
 

@@ -6,8 +6,8 @@ use Rattle.recovery.specs.First.{IsFresh}
 use Rattle.cn_scheduler.specs.declared.plan.Plan.{Plan}
 use Rattle.cn_scheduler.specs.Point.{Point, Work}
 use Rattle.cn_scheduler.specs.Belongs.{BelongTogether}
-use Rattle.cn_runtime.specs.Working.{IsSetUp}
-use Rattle.cn_runtime.specs.Claims.{Begins}
+use Rattle.lawful_timeline.specs.Working.{IsSetUp}
+use Rattle.lawful_timeline.specs.Claims.{Begins}
 
 -- the working value that a program starts with
 abbrev pub first_work : Checked → Layout → Work

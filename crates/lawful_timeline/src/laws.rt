@@ -1,14 +1,14 @@
 ghost use Rattle.cat_program.specs.Checked.{Checked};
 ghost use Rattle.cn_scheduler.specs.declared.plan.Plan.{Plan};
-ghost use Rattle.cn_runtime.specs.Claims.{LawfulTimelinesHold};
-ghost use Rattle.cn_runtime.specs.Lines.{TimelinesGrow};
-ghost use Rattle.cn_runtime.specs.Starting.{StartsBelong};
+ghost use Rattle.lawful_timeline.specs.Claims.{LawfulTimelinesHold};
+ghost use Rattle.lawful_timeline.specs.Lines.{TimelinesGrow};
+ghost use Rattle.lawful_timeline.specs.Starting.{StartsBelong};
 
 use cat_machine::runs_are_steps;
 use checkpoint_slots::{commits_are_safe, slots_are_read_again};
-use nv_memory::{parts_are_apart, writes_are_local};
-use logged_runs::{earlier_runs_are_ordered, entries_tell, own_runs_go_on};
 use image_meaning::{commits_are_kept, images_stand_for_one, operations_are_safe};
+use logged_runs::{earlier_runs_are_ordered, entries_tell, own_runs_go_on};
+use nv_memory::{parts_are_apart, writes_are_local};
 
 /// After each entry of a lawful timeline the image stands for the reference run of its own entries and steps, which is an earlier
 /// moment of that of each later image.

@@ -23,7 +23,7 @@ use Rattle.cn_scheduler.specs.declared.engine.Chunk.TheVariants.{Ended, Dropped,
 use Rattle.cn_scheduler.specs.Paths.{Act}
 use Rattle.cn_scheduler.specs.Asked.{Ask, HasRoom, Limits, Asked, ask_with, listed, outs_in, path_asks, recording}
 use Rattle.cn_scheduler.specs.Chunks.{AreFit}
-use Rattle.cn_runtime.specs.Claims.{AreAbove}
+use Rattle.lawful_timeline.specs.Claims.{AreAbove}
 
 -- an operation that was done or lost, by the bytes that it left
 pub record Went (old : State) (op : Op) (new : State) : Type 0 where

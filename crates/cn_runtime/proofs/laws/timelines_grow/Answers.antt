@@ -1,5 +1,0 @@
-use Rattle.cn_runtime.proofs.Turning.{none, turn, turn_time}
-use Rattle.cn_runtime.proofs.laws.timelines_grow.Goals as goal
-
-pub returns : goal.returns
-returns c = λ plan. record { none = none plan; turn = turn plan; time = turn_time plan }

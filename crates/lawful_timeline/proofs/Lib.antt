@@ -1,0 +1,11 @@
+pub mod Outputs
+pub mod Asking
+pub mod Saving
+pub mod Works
+pub mod Policies
+pub mod Kept
+pub mod Whole
+pub mod Lines
+pub mod Times
+pub mod Starts
+pub mod Turning
