@@ -8,7 +8,7 @@ use Rattle.harvest_trace.specs.Failures.{first_in}
 use Rattle.nv_memory.specs.declared.entry.Op.{Op}
 use Rattle.nv_memory.specs.declared.entry.Op.TheVariants.{Instr, Emit, Write, Wake, Sleep}
 use Rattle.nv_memory.specs.Board.{Draws, ticks_of}
-use Rattle.nv_memory.proofs.AnyBoardLemmas.{some_ticks_of, some_of}
+use Rattle.nv_memory.specs.Laws.{OperationsAreBounded}
 use Rattle.board_core.specs.declared.origin.ModelOrigin.{ModelOrigin}
 use Rattle.board_core.specs.declared.fate.Fate.{Fate}
 use Rattle.board_core.specs.Rules.{class_ticks, cost_at, failure_in, fate_of, unless_failing}
@@ -66,18 +66,18 @@ failure_in-within o tick (Write at left) f is = first_in-within tick (tick + tic
 failure_in-within o tick Wake f is = first_in-within tick (tick + ticks_of (class_ticks o.device) Wake) o.fails f is
 failure_in-within o tick Sleep f is = absurd (cc)
 
-bounded_unless : (o : ModelOrigin) (tick stored : ℕ) (op : Op) → cost_at o tick op ≤ stored → (found : Option Failure) → failure_in o tick op ≡ found
+bounded_unless : OperationsAreBounded → (o : ModelOrigin) (tick stored : ℕ) (op : Op) → cost_at o tick op ≤ stored → (found : Option Failure) → failure_in o tick op ≡ found
     → IsBounded stored (ticks_of (class_ticks o.device) op) op (unless_failing tick (cost_at o tick op) (ticks_of (class_ticks o.device) op) found)
-bounded_unless o tick stored op enough None is =
+bounded_unless law o tick stored op enough None is =
     record {
       affordable = enough;
-      some_ticks = some_ticks_of (class_ticks o.device) op (some_of o.device);
+      some_ticks = law.ticks (class_ticks o.device) op (law.some o.device);
       no_more_ticks = omega arith;
       whole = λ _. refl;
       draws = λ _. draws_cost o tick op;
       awake = λ h. absurd (cc);
     }
-bounded_unless o tick stored op enough (Some f) is =
+bounded_unless law o tick stored op enough (Some f) is =
     let within = failure_in-within o tick op f is in
     record {
       affordable = enough;
@@ -94,18 +94,18 @@ less a b h = grind (arith, nat_tests)
 not_less : (a b : ℕ) → nat_lt a b ≡ false → b ≤ a
 not_less a b h = grind (arith, nat_tests)
 
-bounded_by : (o : ModelOrigin) (tick stored : ℕ) (op : Op) (b : Bool) → nat_lt stored (cost_at o tick op) ≡ b
+bounded_by : OperationsAreBounded → (o : ModelOrigin) (tick stored : ℕ) (op : Op) (b : Bool) → nat_lt stored (cost_at o tick op) ≡ b
     → IsBounded stored (ticks_of (class_ticks o.device) op) op (if b then record { drawn = stored; ticks = 1; torn = Some o.device.fill } else unless_failing tick (cost_at o tick op) (ticks_of (class_ticks o.device) op) (failure_in o tick op))
-bounded_by o tick stored op true is =
+bounded_by law o tick stored op true is =
     record {
       affordable = omega arith;
       some_ticks = omega arith;
-      no_more_ticks = some_ticks_of (class_ticks o.device) op (some_of o.device);
+      no_more_ticks = law.ticks (class_ticks o.device) op (law.some o.device);
       whole = λ h. absurd (cc);
       draws = λ h. absurd (cc);
       awake = λ _. awake_if_dear o tick stored op (less stored (cost_at o tick op) is);
     }
-bounded_by o tick stored op false is = bounded_unless o tick stored op (not_less stored (cost_at o tick op) is) (failure_in o tick op) refl
+bounded_by law o tick stored op false is = bounded_unless law o tick stored op (not_less stored (cost_at o tick op) is) (failure_in o tick op) refl
 
-pub fate_bounded : (o : ModelOrigin) (tick stored : ℕ) (op : Op) → IsBounded stored (ticks_of (class_ticks o.device) op) op (fate_of o tick stored op)
-fate_bounded o tick stored op = bounded_by o tick stored op (nat_lt stored (cost_at o tick op)) refl
+pub fate_bounded : OperationsAreBounded → (o : ModelOrigin) (tick stored : ℕ) (op : Op) → IsBounded stored (ticks_of (class_ticks o.device) op) op (fate_of o tick stored op)
+fate_bounded law o tick stored op = bounded_by law o tick stored op (nat_lt stored (cost_at o tick op)) refl

@@ -11,9 +11,7 @@ use Rattle.nv_memory.specs.declared.entry.Entry.{Entry}
 use Rattle.nv_memory.specs.declared.board.Answer.TheVariants.{Done, Lost}
 use Rattle.nv_memory.specs.Bytes.{repeated}
 use Rattle.nv_memory.specs.Board.{State, Steps, IsSound, IsIn, image_after, leaving, left_of, filled, after, on_after, ticks_of}
-use Rattle.nv_memory.proofs.BytesLemmas.{length-repeated}
-use Rattle.nv_memory.proofs.Steps.{sound_after, IsIn-leaving}
-use Rattle.nv_memory.proofs.AnyBoardLemmas.{some_of, few_of}
+use Rattle.nv_memory.specs.Laws.{BoardsStaySound, OperationsAreBounded}
 use Rattle.board_core.specs.declared.origin.ModelOrigin.{ModelOrigin}
 use Rattle.board_core.specs.declared.fate.Fate.{Fate}
 use Rattle.board_core.specs.Rules.{class_ticks, fate_of, fate_answer, harvests, left_by, model_after, model_next}
@@ -22,9 +20,9 @@ use Rattle.board_core.specs.Reached.{IsReached, replayed, first_state, model_sta
 use Rattle.board_core.proofs.Fates.{fate_bounded}
 use Rattle.board_core.proofs.Passing.{length-harvests, harvests-since}
 
-pub IsIn-left_by : (torn : Option (List ℕ)) (op : Op) (image : List ℕ) → IsIn op image → IsIn (left_by torn op) image
-IsIn-left_by None op image within = within
-IsIn-left_by (Some fill) op image within = IsIn-leaving op (repeated fill (length (left_of op))) image (length-repeated fill (length (left_of op))) within
+pub IsIn-left_by : OperationsAreBounded → (torn : Option (List ℕ)) (op : Op) (image : List ℕ) → IsIn op image → IsIn (left_by torn op) image
+IsIn-left_by law None op image within = within
+IsIn-left_by law (Some fill) op image within = law.within op (repeated fill (length (left_of op))) image (law.filling fill (length (left_of op))) within
 
 on-left_by : (torn : Option (List ℕ)) (op : Op) (on : Bool) → (if is_some torn then false else on_after op on) ≡ (if is_some torn then false else on_after (left_by torn op) on)
 on-left_by None op on = refl
@@ -73,19 +71,19 @@ whole_left : (torn : Option (List ℕ)) (op : Op) → is_some torn ≡ false →
 whole_left None op is = refl
 whole_left (Some fill) op is = absurd (cc)
 
-torn_left : (torn : Option (List ℕ)) (op : Op) → is_some torn ≡ true → (left : List ℕ) × (length left ≡ length (left_of op)) × (left_by torn op ≡ leaving op left)
-torn_left None op is = absurd (cc)
-torn_left (Some fill) op is = (repeated fill (length (left_of op)), length-repeated fill (length (left_of op)), refl)
+torn_left : OperationsAreBounded → (torn : Option (List ℕ)) (op : Op) → is_some torn ≡ true → (left : List ℕ) × (length left ≡ length (left_of op)) × (left_by torn op ≡ leaving op left)
+torn_left law None op is = absurd (cc)
+torn_left law (Some fill) op is = (repeated fill (length (left_of op)), law.filling fill (length (left_of op)), refl)
 
-module _ (o : ModelOrigin) (image : List ℕ) (es : List Entry) (tick stored losses : ℕ) (on : Bool) (op : Op) where
+module _ (law : OperationsAreBounded) (o : ModelOrigin) (image : List ℕ) (es : List Entry) (tick stored losses : ℕ) (on : Bool) (op : Op) where
   acted : (lost : Bool) → is_some (fate_of o tick stored op).torn ≡ lost → tick + ticks_of (class_ticks o.device) op ≤ life_of o.trace
       → Steps (model_state o image es tick stored losses on) op (if lost then Lost else Done) (model_after o (model_state o image es tick stored losses on) op)
   acted true is fits =
       let s = model_state o image es tick stored losses on in
       let fate = fate_of o tick stored op in
-      let bounded = fate_bounded o tick stored op in
+      let bounded = fate_bounded law o tick stored op in
       let passed = harvests o.trace tick fate.ticks in
-      let torn = torn_left fate.torn op is in
+      let torn = torn_left law fate.torn op is in
       record {
         awake = bounded.awake is;
         fits = fits;
@@ -101,7 +99,7 @@ module _ (o : ModelOrigin) (image : List ℕ) (es : List Entry) (tick stored los
   acted false is fits =
       let s = model_state o image es tick stored losses on in
       let fate = fate_of o tick stored op in
-      let bounded = fate_bounded o tick stored op in
+      let bounded = fate_bounded law o tick stored op in
       let passed = harvests o.trace tick fate.ticks in
       record {
         fits = fits;
@@ -119,16 +117,16 @@ module _ (o : ModelOrigin) (image : List ℕ) (es : List Entry) (tick stored los
   acts fits = acted (is_some (fate_of o tick stored op).torn) refl fits
 
   -- and what always holds of a board still does
-  pub acts_sound : IsSound (model_start o) (model_state o image es tick stored losses on) → IsIn op image → tick + ticks_of (class_ticks o.device) op ≤ life_of o.trace
+  pub acts_sound : BoardsStaySound → IsSound (model_start o) (model_state o image es tick stored losses on) → IsIn op image → tick + ticks_of (class_ticks o.device) op ≤ life_of o.trace
       → ((k : ℕ) → get_or (image_after (left_by (fate_of o tick stored op).torn op) image) k 0 < 256)
       → IsSound (model_start o) (model_after o (model_state o image es tick stored losses on) op)
-  acts_sound sound within fits bytes =
+  acts_sound stay sound within fits bytes =
       let s = model_state o image es tick stored losses on in
       let fate = fate_of o tick stored op in
-      let bounded = fate_bounded o tick stored op in
+      let bounded = fate_bounded law o tick stored op in
       let many = length-harvests o.trace tick fate.ticks in
-      sound_after (model_start o) s (left_by fate.torn op) (is_some fate.torn) fate.drawn (harvests o.trace tick fate.ticks) sound
-      (IsIn-left_by fate.torn op image within)
+      stay (model_start o) s (left_by fate.torn op) (is_some fate.torn) fate.drawn (harvests o.trace tick fate.ticks) sound
+      (IsIn-left_by law fate.torn op image within)
       (omega (arith, many, bounded.some_ticks))
       (omega (arith, many, bounded.no_more_ticks))
       bytes
@@ -168,26 +166,26 @@ fate-leaving o tick stored Wake bytes = refl
 fate-leaving o tick stored Sleep bytes = refl
 
 -- a fill that is left twice is left once
-left-twice : (fill : List ℕ) (op : Op) → left_by (Some fill) (left_by (Some fill) op) ≡ left_by (Some fill) op
-left-twice fill (Instr kind pc) = refl
-left-twice fill (Emit pc at left) = ap (λ (n : ℕ). Emit pc at (repeated fill n)) (length-repeated fill (length left))
-left-twice fill (Write at left) = ap (λ (n : ℕ). Write at (repeated fill n)) (length-repeated fill (length left))
-left-twice fill Wake = refl
-left-twice fill Sleep = refl
+left-twice : OperationsAreBounded → (fill : List ℕ) (op : Op) → left_by (Some fill) (left_by (Some fill) op) ≡ left_by (Some fill) op
+left-twice law fill (Instr kind pc) = refl
+left-twice law fill (Emit pc at left) = ap (λ (n : ℕ). Emit pc at (repeated fill n)) (law.filling fill (length left))
+left-twice law fill (Write at left) = ap (λ (n : ℕ). Write at (repeated fill n)) (law.filling fill (length left))
+left-twice law fill Wake = refl
+left-twice law fill Sleep = refl
 
-again_by : (o : ModelOrigin) (s : State) (op : Op) (torn : Option (List ℕ)) → (fate_of o s.tick s.stored op).torn ≡ torn → model_after o s (left_by torn op) ≡ model_after o s op
-again_by o s op None is = refl
-again_by o s op (Some fill) is =
+again_by : OperationsAreBounded → (o : ModelOrigin) (s : State) (op : Op) (torn : Option (List ℕ)) → (fate_of o s.tick s.stored op).torn ≡ torn → model_after o s (left_by torn op) ≡ model_after o s op
+again_by law o s op None is = refl
+again_by law o s op (Some fill) is =
     let op' = left_by (Some fill) op in
     let f = fate_of o s.tick s.stored op in
     ap (λ (f : Fate). after s (left_by f.torn op') (is_some f.torn) f.drawn (harvests o.trace s.tick f.ticks)) (fate-leaving o s.tick s.stored op (repeated fill (length (left_of op))))
     ∙ ap (λ (torn : Option (List ℕ)). after s (left_by torn op') (is_some f.torn) f.drawn (harvests o.trace s.tick f.ticks)) is
-    ∙ ap (λ (op : Op). after s op (is_some f.torn) f.drawn (harvests o.trace s.tick f.ticks)) (left-twice fill op)
+    ∙ ap (λ (op : Op). after s op (is_some f.torn) f.drawn (harvests o.trace s.tick f.ticks)) (left-twice law fill op)
     ∙ ap (λ (torn : Option (List ℕ)). after s (left_by torn op) (is_some f.torn) f.drawn (harvests o.trace s.tick f.ticks)) (sym is)
 
 -- asked for what it left, an operation does the same again
-again : (o : ModelOrigin) (s : State) (op : Op) → model_after o s (left_by (fate_of o s.tick s.stored op).torn op) ≡ model_after o s op
-again o s op = again_by o s op (fate_of o s.tick s.stored op).torn refl
+again : OperationsAreBounded → (o : ModelOrigin) (s : State) (op : Op) → model_after o s (left_by (fate_of o s.tick s.stored op).torn op) ≡ model_after o s op
+again law o s op = again_by law o s op (fate_of o s.tick s.stored op).torn refl
 
 left_by-leaving : (fill : List ℕ) (op : Op) (bytes : List ℕ) → length bytes ≡ length (left_of op) → left_by (Some fill) (leaving op bytes) ≡ left_by (Some fill) op
 left_by-leaving fill (Instr kind pc) bytes same = refl
@@ -214,13 +212,13 @@ replayed-append o [] ys s = refl
 replayed-append o (x ∷ xs) ys s = replayed-append o xs ys (model_next o s x.op)
 
 -- one operation more
-pub reached_after : (o : ModelOrigin) (s : State) (op : Op) → IsReached o s → s.tick + ticks_of s.ticks op ≤ s.life → IsReached o (model_after o s op)
-reached_after o s op reached fits =
+pub reached_after : OperationsAreBounded → (o : ModelOrigin) (s : State) (op : Op) → IsReached o s → s.tick + ticks_of s.ticks op ≤ s.life → IsReached o (model_after o s op)
+reached_after law o s op reached fits =
     let torn = (fate_of o s.tick s.stored op).torn in
     let left = left_by torn op in
     let e = entry_by o s op in
     let fits' : s.tick + ticks_of s.ticks left ≤ s.life = omega (arith, ticks-left_by s.ticks torn op) in
-    sym (replayed-push o s.timeline e (first_state o) ∙ ap (λ (t : State). model_next o t left) (sym reached) ∙ next_after o s left fits' ∙ again o s op)
+    sym (replayed-push o s.timeline e (first_state o) ∙ ap (λ (t : State). model_next o t left) (sym reached) ∙ next_after o s left fits' ∙ again law o s op)
 
 -- before any operation
 pub first_is : (o : ModelOrigin) (image : List ℕ) (es : List Entry) (tick stored : ℕ) → o.image ≡ image → es ≡ [] → o.tick ≡ tick → o.stored ≡ stored → first_state o ≡ model_state o image es tick stored 0 false
@@ -241,20 +239,21 @@ first_is o image es tick stored image_is es_is tick_is stored_is =
       losses = 0;
     }
 
-pub first_sound : (o : ModelOrigin) → length o.image < 4294967296 → ((k : ℕ) → get_or o.image k 0 < 256) → IsSound (model_start o) (first_state o)
-first_sound o small bytes =
+pub first_sound : OperationsAreBounded → (o : ModelOrigin) → length o.image < 4294967296 → ((k : ℕ) → get_or o.image k 0 < 256) → IsSound (model_start o) (first_state o)
+first_sound law o small bytes =
     record {
       in_life = o.in_life;
       life_in_range = o.life_in_range;
       in_cap = o.in_cap;
       losses_by_tick = omega arith;
       entries_by_tick = omega arith;
-      some_ticks = some_of o.device;
-      few_ticks = few_of o.device;
+      some_ticks = law.some o.device;
+      few_ticks = law.few o.device;
       size_in_range = small;
       bytes = bytes;
       passed = omega arith;
       image_is = refl;
+      told = record { ticks = refl; stores = refl };
     }
 
 pub first_reached : (o : ModelOrigin) → IsReached o (first_state o)

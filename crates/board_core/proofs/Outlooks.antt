@@ -1,5 +1,5 @@
 -- An outlook holds from later ticks too, and says what becomes of what lies within it.
-use Rattle.std.proofs.Common.{◌≡◌, ◌≢◌, ℕ, zero, suc, ◌+◌, ◌*◌, ◌≤◌, ◌<◌, ◌&&◌, min, nat_le, nat_lt, Bool, true, false, List, [], ◌∷◌, Option, Some, None, replicate, refl, ◌∙◌, ap, arith}
+use Rattle.std.proofs.Common.{◌≡◌, ◌≢◌, ℕ, zero, suc, ◌+◌, ◌≤◌, ◌<◌, ◌&&◌, nat_le, nat_lt, Bool, true, false, List, [], ◌∷◌, Option, Some, None, replicate, refl, ◌∙◌, ap, arith}
 use Rattle.std.specs.Prelude.{if◌then◌else◌, option_map, unwrap_or}
 use Rattle.std.proofs.lemmas.Bool.Decides.{nat_tests}
 use Rattle.harvest_trace.specs.declared.failures.Failure.{Failure}
@@ -10,7 +10,6 @@ use Rattle.nv_memory.specs.declared.entry.Op.{Op}
 use Rattle.nv_memory.specs.declared.entry.Op.TheVariants.{Instr, Emit, Write, Wake, Sleep}
 use Rattle.nv_memory.specs.Board.{filled, ticks_of}
 use Rattle.nv_memory.specs.AnyBoard.{actual_of}
-use Rattle.nv_memory.proofs.Steps.{filled_replicate}
 use Rattle.board_core.specs.declared.origin.ModelOrigin.{ModelOrigin}
 use Rattle.board_core.specs.declared.outlook.Outlook.{Outlook}
 use Rattle.board_core.specs.Outlook.{IsOutlook}
@@ -90,17 +89,16 @@ fate_foreseen o tick stored op outlook h awake some until failure affordable =
     ∙ ap (λ (found : Option Failure). unless_failing tick cost ticks found) calm
 
 -- what is stored after ticks of one harvest
-pub filled-alike : (trace : List TraceRow) (cap stored tick n h : ℕ) → stored ≤ cap → ((t : ℕ) → tick ≤ t → t < tick + n → harvest_at trace t ≡ h) → filled cap stored (harvests trace tick n) ≡ min cap (stored + n * h)
-filled-alike trace cap stored tick n h in_cap alike = ap (filled cap stored) (harvests-alike trace tick n h alike) ∙ filled_replicate cap stored n h in_cap
+pub filled-alike : (trace : List TraceRow) (cap stored tick n h : ℕ) → ((t : ℕ) → tick ≤ t → t < tick + n → harvest_at trace t ≡ h) → filled cap stored (harvests trace tick n) ≡ filled cap stored (replicate n h)
+filled-alike trace cap stored tick n h alike = ap (filled cap stored) (harvests-alike trace tick n h alike)
 
 pub harvest_at-alike : (trace : List TraceRow) (s t : ℕ) → row_at trace s ≡ row_at trace t → harvest_at trace s ≡ harvest_at trace t
 harvest_at-alike trace s t same = ap (λ (row : Option TraceRow). unwrap_or (option_map (λ (row : TraceRow). row.harvest) row) 0) same
 
 -- and what is stored after an operation within the outlook
-pub stored_foreseen : (o : ModelOrigin) (tick stored n : ℕ) (outlook : Outlook) → IsOutlook o tick outlook → stored ≤ o.device.cap → tick + n ≤ outlook.until
-    → filled o.device.cap stored (harvests o.trace tick n) ≡ min o.device.cap (stored + n * outlook.harvest)
-stored_foreseen o tick stored n outlook h in_cap until =
-    filled-alike o.trace o.device.cap stored tick n outlook.harvest in_cap (λ t from below. h.harvest t from (omega arith))
+pub stored_foreseen : (o : ModelOrigin) (tick stored n : ℕ) (outlook : Outlook) → IsOutlook o tick outlook → tick + n ≤ outlook.until
+    → filled o.device.cap stored (harvests o.trace tick n) ≡ filled o.device.cap stored (replicate n outlook.harvest)
+stored_foreseen o tick stored n outlook h until = filled-alike o.trace o.device.cap stored tick n outlook.harvest (λ t from below. h.harvest t from (omega arith))
 
 pub none_outlook : (o : ModelOrigin) (tick : ℕ) → IsOutlook o tick (record { until = 0; failure = tick; harvest = 0; extra = 0 })
 none_outlook o tick =

@@ -7,16 +7,18 @@ use Rattle.std.specs.List.{All}
 use Rattle.std.specs.List.Sorted.{IsNonDecreasing, IsPartitionPoint}
 use Rattle.std.proofs.lemmas.List.{append-nil, take-append-le, drop-append-le, get_or_default}
 use Rattle.std.proofs.lemmas.Grind.{flat_map-append}
+use Rattle.std.proofs.lemmas.Option.{slice_get_within}
 use Rattle.std.proofs.lemmas.List.Elements.{All-append}
 use Rattle.nv_memory.specs.declared.entry.Entry.{Entry}
 use Rattle.nv_memory.specs.declared.entry.Op.{Op}
 use Rattle.nv_memory.specs.declared.entry.Op.TheVariants as op
+use Rattle.nv_memory.specs.Asleep.{IsAsleep}
 use Rattle.nv_memory.specs.Bytes.{bytes_at}
 use Rattle.board_core.specs.declared.record.What.{What}
 use Rattle.board_core.specs.declared.record.What.TheVariants as what
 use Rattle.board_core.specs.declared.record.Record.{Record}
 use Rattle.board_core.specs.declared.record.Record.TheVariants.{Did, Slept}
-use Rattle.board_core.specs.Records.{IsHeld, IsKept, ends_from, entries_by, left_end, op_of, record_end, sleeps, width}
+use Rattle.board_core.specs.Records.{IsHeld, IsKept, ends_from, entries_by, left_end, op_of, record_end, sleep_stored, sleeps, width}
 
 -- bytes that stand at the end
 pub bytes_at-appended : (left bytes : List ℕ) → bytes_at (length left) (length bytes) (left ++ bytes) ≡ bytes
@@ -270,6 +272,46 @@ shown_at cap left rs ends count i place r end wide h most point within r_is end_
       held = held;
       entry = found.entry ∙ ap (λ (x : Record). slice_get (entries_by cap left x) (place - begin)) (sym r_is) ∙ ap (λ (n : ℕ). slice_get (entries_by cap left r) (place - n)) (sym start);
     }
+
+-- each entry from a place on, up to the end of the sleep in which it is
+module _ (cap : ℕ) (left : List ℕ) (rs : List Record) (ends : List ℕ) (count i place tick stored harvest ticks end : ℕ) (h : IsKept cap rs ends left count) (most : i ≤ length ends)
+    (point : IsPartitionPoint (λ end. end ≤ place) (λ end. place < end) ends i) (within : place < length (flat_map (entries_by cap left) rs))
+    (r_is : Slept tick stored harvest ticks ≡ get_or rs i (Slept tick stored harvest ticks)) (end_is : end ≡ get_or ends i end) where
+  abbrev slept : Record
+  slept = Slept tick stored harvest ticks
+
+  here : IsFound cap left rs ends i place slept
+  here = found_at cap left rs ends count i place slept h most point within
+
+  last : end ≡ get_or ends i 0
+  last = end_is ∙ get_or_default ends i end 0 (omega (arith, length_of_ends cap rs ends left count h, here.inside))
+
+  pub slept_behind : place < end
+  slept_behind = omega (arith, last, here.until)
+
+  pub slept_at : (k : ℕ) → place ≤ k → k < end → IsAsleep (flat_map (entries_by cap left) rs) k
+  slept_at k from until =
+      let begin = get_or (0 ∷ ends_from 0 rs) i 0 in
+      let e = h.ends_are in
+      let begun : begin ≤ k = omega (arith, from, subst (λ (l : List ℕ). get_or (0 ∷ l) i 0 ≤ place) e here.begun) in
+      let ended : k < get_or (ends_from 0 rs) i 0 = subst (λ (l : List ℕ). k < get_or l i 0) e (omega (arith, until, last)) in
+      let first : begin + ticks ≡ get_or (ends_from 0 rs) i 0 = ap (λ (r : Record). begin + width r) r_is ∙ first_of 0 rs i slept here.inside in
+      let stored_in : stored ≤ cap = subst (λ (r : Record). sleep_stored r ≤ cap) (sym r_is) (h.held i slept here.inside).in_cap in
+      let z : k ≡ k - 0 = omega arith in
+      record {
+        entry = record { tick = tick + (k - begin); stored = min cap (stored + (k - begin) * harvest); drawn = 0; ticks = 1; op = op.Sleep; lost = false };
+        at = ap (slice_get (flat_map (entries_by cap left) rs)) z
+            ∙ entry_in cap left 0 rs i k slept here.inside begun ended
+            ∙ ap (λ (r : Record). slice_get (entries_by cap left r) (k - begin)) (sym r_is)
+            ∙ sleep_at cap tick stored harvest ticks (k - begin) stored_in (omega (arith, begun, ended, first));
+        sleep = refl;
+        passed = refl;
+      }
+
+  pub slept_within : end ≤ length (flat_map (entries_by cap left) rs)
+  slept_within =
+      let one = slept_at (end - 1) (omega (arith, slept_behind)) (omega (arith, slept_behind)) in
+      omega (arith, slice_get_within (flat_map (entries_by cap left) rs) (end - 1) one.entry one.at)
 
 -- what stands after one record more
 pub record IsPushed (cap : ℕ) (rs rs' : List Record) (ends' left left' : List ℕ) (count : ℕ) (r : Record) : Type 0 where

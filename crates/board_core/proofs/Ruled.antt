@@ -9,6 +9,7 @@ use Rattle.nv_memory.specs.declared.entry.Op.{Op}
 use Rattle.nv_memory.specs.declared.board.Answer.{Answer}
 use Rattle.nv_memory.specs.declared.board.Answer.TheVariants.{Done, Lost, Over}
 use Rattle.nv_memory.specs.Board.{State, IsDone, IsLost, IsOver, Steps, after, leaving, ticks_of}
+use Rattle.nv_memory.specs.Laws.{OperationsAreBounded}
 use Rattle.board_core.specs.declared.fate.Fate.{Fate}
 use Rattle.board_core.specs.declared.origin.ModelOrigin.{ModelOrigin}
 use Rattle.board_core.specs.Laws.{IsLater, IsRuled, RulesDecide}
@@ -87,19 +88,19 @@ answer_by o s op lost fits is =
     ap (λ (b : Bool). if b then Lost else Done) is
     ∙ sym (ap (λ (b : Bool). if b then Over else fate_answer o s op) (not_over s.life (s.tick + ticks_of s.ticks op) fits))
 
-done_ruled : (o : ModelOrigin) (s t last : State) (op : Op) → IsReached o s → IsDone s op t → IsLater t last → IsReached o last → IsRuled o s op Done t
-done_ruled o s t last op reached done later last_reached =
+done_ruled : OperationsAreBounded → (o : ModelOrigin) (s t last : State) (op : Op) → IsReached o s → IsDone s op t → IsLater t last → IsReached o last → IsRuled o s op Done t
+done_ruled law o s t last op reached done later last_reached =
     let later' = subst (λ (x : State). IsLater x last) done.becomes later in
     let step = same_step o s last op false done.drawn done.passed reached done.fits later' last_reached in
     let becomes : t ≡ model_after o s op = done.becomes ∙ λ i. after s (step.entry i).op (step.entry i).lost (step.entry i).drawn (step.harvest i) in
     record {
       answer_is = answer_by o s op false done.fits (ap (λ (x : Entry). x.lost) step.entry);
       next_is = becomes ∙ sym (next_after o s op done.fits);
-      reached = subst (λ (x : State). IsReached o x) (sym becomes) (reached_after o s op reached done.fits);
+      reached = subst (λ (x : State). IsReached o x) (sym becomes) (reached_after law o s op reached done.fits);
     }
 
-lost_ruled : (o : ModelOrigin) (s t last : State) (op : Op) → IsReached o s → IsLost s op t → IsLater t last → IsReached o last → IsRuled o s op Lost t
-lost_ruled o s t last op reached lost later last_reached =
+lost_ruled : OperationsAreBounded → (o : ModelOrigin) (s t last : State) (op : Op) → IsReached o s → IsLost s op t → IsLater t last → IsReached o last → IsRuled o s op Lost t
+lost_ruled law o s t last op reached lost later last_reached =
     let op' = leaving op lost.left in
     let fits' : s.tick + ticks_of s.ticks op' ≤ s.life = omega (arith, lost.fits, ticks-leaving s.ticks op lost.left) in
     let later' = subst (λ (x : State). IsLater x last) lost.becomes later in
@@ -110,7 +111,7 @@ lost_ruled o s t last op reached lost later last_reached =
     record {
       answer_is = answer_by o s op true lost.fits torn;
       next_is = becomes ∙ sym (next_after o s op lost.fits);
-      reached = subst (λ (x : State). IsReached o x) (sym becomes) (reached_after o s op reached lost.fits);
+      reached = subst (λ (x : State). IsReached o x) (sym becomes) (reached_after law o s op reached lost.fits);
     }
 
 over_ruled : (o : ModelOrigin) (s t : State) (op : Op) → IsReached o s → IsOver s op t → IsRuled o s op Over t
@@ -122,15 +123,15 @@ over_ruled o s t op reached over =
       reached = subst (λ (x : State). IsReached o x) (sym over.same) reached;
     }
 
-step_ruled : (o : ModelOrigin) (s t last : State) (op : Op) (answer : Answer) → IsReached o s → Steps s op answer t → IsLater t last → IsReached o last → IsRuled o s op answer t
-step_ruled o s t last op Done reached step later last_reached = done_ruled o s t last op reached step later last_reached
-step_ruled o s t last op Lost reached step later last_reached = lost_ruled o s t last op reached step later last_reached
-step_ruled o s t last op Over reached step later last_reached = over_ruled o s t op reached step
+step_ruled : OperationsAreBounded → (o : ModelOrigin) (s t last : State) (op : Op) (answer : Answer) → IsReached o s → Steps s op answer t → IsLater t last → IsReached o last → IsRuled o s op answer t
+step_ruled law o s t last op Done reached step later last_reached = done_ruled law o s t last op reached step later last_reached
+step_ruled law o s t last op Lost reached step later last_reached = lost_ruled law o s t last op reached step later last_reached
+step_ruled law o s t last op Over reached step later last_reached = over_ruled o s t op reached step
 
-pub decided : (o : ModelOrigin) → RulesDecide o
-decided o =
+pub decided : OperationsAreBounded → (o : ModelOrigin) → RulesDecide o
+decided law o =
     record {
       first = first_reached o;
-      step = step_ruled o;
+      step = step_ruled law o;
       one = λ s t s_reached t_reached same. s_reached ∙ ap (λ (l : List Entry). replayed o l (first_state o)) same ∙ sym t_reached;
     }

@@ -10,7 +10,7 @@ use Rattle.nv_memory.specs.declared.entry.Op.TheVariants.{Sleep}
 use Rattle.nv_memory.specs.declared.board.Answer.{Answer}
 use Rattle.nv_memory.specs.declared.board.Answer.TheVariants.{Done}
 use Rattle.nv_memory.specs.Board.{State, IsDone, IsSound, Sleeps, Rested, Further, after}
-use Rattle.nv_memory.proofs.Steps.{sound_after}
+use Rattle.nv_memory.specs.Laws.{BoardsStaySound, OperationsAreBounded}
 use Rattle.board_core.specs.declared.fate.Fate.{Fate}
 use Rattle.board_core.specs.declared.origin.ModelOrigin.{ModelOrigin}
 use Rattle.board_core.specs.Records.{sleeps}
@@ -46,26 +46,26 @@ done_sleep o s fits =
     }
 
 -- what holds of every board, and that the rules lead there
-pub slept_sound : (o : ModelOrigin) (n : ℕ) (s : State) → IsSound (model_start o) s → s.tick + n ≤ s.life → IsSound (model_start o) (slept o n s)
+pub slept_sound : BoardsStaySound → (o : ModelOrigin) (n : ℕ) (s : State) → IsSound (model_start o) s → s.tick + n ≤ s.life → IsSound (model_start o) (slept o n s)
 unfolding slept
-slept_sound o zero s sound fits = sound
-slept_sound o (suc n) s sound fits =
+slept_sound stay o zero s sound fits = sound
+slept_sound stay o (suc n) s sound fits =
     let t = after s Sleep false 0 (harvest_at o.trace s.tick ∷ []) in
     let first : s.tick + 1 ≤ s.life = omega arith in
-    let t_sound : IsSound (model_start o) t = sound_after (model_start o) s Sleep false 0 (harvest_at o.trace s.tick ∷ []) sound tt (omega arith) first sound.bytes in
+    let t_sound : IsSound (model_start o) t = stay (model_start o) s Sleep false 0 (harvest_at o.trace s.tick ∷ []) sound tt (omega arith) first sound.bytes in
     let rest : (s.tick + 1) + n ≤ s.life = omega arith in
-    subst (λ (x : State). IsSound (model_start o) (slept o n x)) (sym (next_sleep o s first)) (slept_sound o n t t_sound rest)
+    subst (λ (x : State). IsSound (model_start o) (slept o n x)) (sym (next_sleep o s first)) (slept_sound stay o n t t_sound rest)
 
-pub slept_reached : (o : ModelOrigin) (n : ℕ) (s : State) → IsReached o s → s.tick + n ≤ s.life → IsReached o (slept o n s)
+pub slept_reached : OperationsAreBounded → (o : ModelOrigin) (n : ℕ) (s : State) → IsReached o s → s.tick + n ≤ s.life → IsReached o (slept o n s)
 unfolding slept
-slept_reached o zero s reached fits = reached
-slept_reached o (suc n) s reached fits =
+slept_reached law o zero s reached fits = reached
+slept_reached law o (suc n) s reached fits =
     let t = after s Sleep false 0 (harvest_at o.trace s.tick ∷ []) in
     let first : s.tick + 1 ≤ s.life = omega arith in
     let e = next_sleep o s first in
-    let t_reached : IsReached o t = subst (λ (x : State). IsReached o x) (sym (next_after o s Sleep first) ∙ e) (reached_after o s Sleep reached first) in
+    let t_reached : IsReached o t = subst (λ (x : State). IsReached o x) (sym (next_after o s Sleep first) ∙ e) (reached_after law o s Sleep reached first) in
     let rest : (s.tick + 1) + n ≤ s.life = omega arith in
-    subst (λ (x : State). IsReached o (slept o n x)) (sym e) (slept_reached o n t t_reached rest)
+    subst (λ (x : State). IsReached o (slept o n x)) (sym e) (slept_reached law o n t t_reached rest)
 
 pub slept-add : (o : ModelOrigin) (n m : ℕ) (s : State) → slept o m (slept o n s) ≡ slept o (n + m) s
 unfolding slept

@@ -1,10 +1,9 @@
-ghost use Rattle.std.specs.Prelude.{◌≡◌, ◌≢◌, ◌⊎◌, ◌+◌, ◌-◌, ◌*◌, min, ◌<◌, ◌≤◌, length, true, false, IfOk, if◌then◌else◌, slice_index, ℕ};
+ghost use Rattle.std.specs.Prelude.{◌≡◌, ◌≢◌, ◌⊎◌, ◌+◌, ◌-◌, ◌*◌, min, ◌<◌, ◌≤◌, length, true, false, IfOk, ℕ};
 ghost use Rattle.std.specs.Option.{is_some};
 ghost use Rattle.cn_base.specs.declared.TheConstants.{MOST_TICKS};
-ghost use Rattle.nv_memory.specs.declared.board.Answer.TheVariants.{Done, Lost};
-ghost use Rattle.nv_memory.specs.Bytes.{written};
+ghost use Rattle.nv_memory.specs.declared.board.Answer.TheVariants.{Done};
 ghost use Rattle.nv_memory.specs.declared.entry.Op.TheVariants.{Sleep};
-ghost use Rattle.nv_memory.specs.Board.{IsSound, IsIn, Sleeps, Steps, image_after, on_after, ticks_of};
+ghost use Rattle.nv_memory.specs.Board.{IsSound, IsIn, Sleeps, Steps, ticks_of};
 ghost use Rattle.harvest_trace.specs.Timeline.{life_of};
 ghost use Rattle.board_core.specs.Rules as spec;
 ghost use Rattle.board_core.specs.Kept.{entries_of, room_of};
@@ -15,11 +14,13 @@ ghost use Rattle.board_core.specs.Reached.{IsReached, model_start, slept};
 use crate::ModelOrigin;
 use crate::fate::Fate;
 use crate::outlook::Outlook;
-use crate::record::refilled;
 use crate::timeline::Timeline;
 use cn_base::{Fill, MOST_TICKS, NoMemory};
 use harvest_trace::{Fails, Trace};
-use nv_memory::{Answer, Board, Class, Device, Entry, Line, Op};
+use nv_memory::{
+    Answer, Board, Class, Device, Entry, Line, Op, answer_of, boards_stay_sound, is_on_after,
+    losses_after, operations_are_bounded, put, refilled,
+};
 use std::alloc::Global;
 
 /// A board that replays a trace. An operation costs what its class actually does and the extra of the tick it starts
@@ -43,27 +44,6 @@ pub struct ModelBoard {
     ghost room: { life_of origin.trace ≤ room_of timeline },
 }
 
-// Puts the bytes that an operation leaves into its range.
-fn put(image: &mut Vec<u8>, op: &Op)
-    requires { IsIn op.now image.old.items }
-    ensures image { image.new.items ≡ image_after op.now image.old.items }
-    ensures bytes { (k : ℕ) → slice_index image.new.items k < 256 }
-{
-    match op {
-        Op::Emit { at, left, .. } => put_at(image, *at as usize, left),
-        Op::Write { at, left } => put_at(image, *at as usize, left),
-        _ => {}
-    }
-}
-
-fn put_at(image: &mut [u8], at: usize, left: &Line)
-    requires { at + length left.now ≤ length image.old }
-    ensures { image.new ≡ written at left.now image.old }
-{
-    let bytes = left.bytes();
-    image[at..at + bytes.len()].copy_from_slice(bytes);
-}
-
 // For how many ticks to sleep, at most `most`, before the store may hold enough.
 fn ticks_to(cap: u32, stored: u32, harvest: u32, enough: u32, most: u32) -> u32
     requires { 1 ≤ most }
@@ -78,25 +58,6 @@ fn ticks_to(cap: u32, stored: u32, harvest: u32, enough: u32, most: u32) -> u32
         return most;
     }
     (enough - stored).div_ceil(harvest).min(most)
-}
-
-fn losses_after(lost: bool, losses: u32) -> u32
-    requires { losses < MOST_TICKS }
-    ensures { result ≡ (if lost then losses + 1 else losses) }
-{
-    if lost { losses + 1 } else { losses }
-}
-
-fn is_on_after(lost: bool, op: &Op, on: bool) -> bool
-    ensures { result ≡ (if lost then false else on_after op.now on) }
-{
-    if lost { false } else { op.leaves_on(on) }
-}
-
-fn answer_of(lost: bool) -> Answer
-    ensures { result ≡ (if lost then Lost else Done) }
-{
-    if lost { Answer::Lost } else { Answer::Done }
 }
 
 // The operation, with the bytes of the fill over and over where it is lost.
@@ -157,6 +118,7 @@ impl ModelBoard {
         ensures origin { IfOk result (λ b. ((origin_of b).trace ≡ trace) × ((origin_of b).fails ≡ fails) × ((origin_of b).device ≡ device) × ((origin_of b).tick ≡ tick) × ((origin_of b).stored ≡ stored) × ((origin_of b).image ≡ image.items)) }
         ensures state { IfOk result (λ b. state_of b ≡ first_state (origin_of b)) }
     {
+        operations_are_bounded();
         let first = match image.to_vec(alloc) {
             Ok(first) => first,
             Err(_) => return Err(NoMemory),
@@ -196,6 +158,8 @@ impl ModelBoard {
         ensures answer { result ≡ fate_answer self.old.origin (state_of self.old) op }
         ensures origin { self.new.origin ≡ self.old.origin }
     {
+        operations_are_bounded();
+        boards_stay_sound();
         let lost = fate.torn.is_some();
         let losses = losses_after(lost, self.losses);
         let on = is_on_after(lost, &op, self.on);
@@ -226,11 +190,13 @@ impl ModelBoard {
         ensures tick { self.new.tick ≡ self.old.tick + ticks }
         ensures stored { self.new.stored ≡ min self.old.origin.device.cap (self.old.stored + ticks * self.old.outlook.harvest) }
     {
+        operations_are_bounded();
+        boards_stay_sound();
         let harvest = self.outlook.harvest;
         self.timeline
             .push_sleeps(self.tick, self.stored, harvest, ticks);
         self.tick += ticks;
-        self.stored = refilled(self.origin.device.cap, self.stored, harvest, ticks);
+        self.stored = refilled(self.origin.device.cap, self.stored, ticks, harvest);
         self.on = false;
     }
 
@@ -265,6 +231,7 @@ impl ModelBoard {
         ensures answer { result ≡ fate_answer self.old.origin (state_of self.old) op }
         ensures origin { self.new.origin ≡ self.old.origin }
     {
+        operations_are_bounded();
         if let Some((fate, stored)) = self
             .origin
             .foreseen(&self.outlook, self.tick, self.stored, &op)
@@ -287,6 +254,7 @@ impl ModelBoard {
         ensures step { Steps (state_of self.old) op result (state_of self.new) }
         ensures origin { self.new.origin ≡ self.old.origin }
     {
+        operations_are_bounded();
         let ticks = self.origin.device.ticks(&op);
         if self.origin.trace.life() - self.tick < ticks {
             return Answer::Over;
@@ -351,6 +319,10 @@ impl Board for ModelBoard {
 
     fn entry(&self, place: u32) -> Entry {
         self.timeline.entry(place)
+    }
+
+    fn resting(&self, place: u32) -> u32 {
+        self.timeline.resting(place)
     }
 
     fn run(&mut self, class: Class, pc: u32) -> Answer

@@ -4,10 +4,9 @@ ghost use Rattle.harvest_trace.specs.Timeline.{life_of};
 
 use crate::fate::Fate;
 use crate::outlook::Outlook;
-use crate::record::refilled;
 use cn_base::{List, MOST_TICKS};
 use harvest_trace::{Fails, Failure, Trace};
-use nv_memory::{Device, Op};
+use nv_memory::{Device, Op, refilled};
 
 /// What a board that replays a trace was made of, and the tick, the units and the image with which it began.
 #[derive(Drop)]
@@ -150,13 +149,13 @@ impl ModelOrigin {
         if stored < drawn {
             return None;
         }
-        let all = stored - drawn + ticks * outlook.harvest;
+        let left = refilled(self.device.cap, stored - drawn, ticks, outlook.harvest);
         let fate = Fate {
             drawn,
             ticks,
             torn: None,
         };
-        Some((fate, all.min(self.device.cap)))
+        Some((fate, left))
     }
 
     /// The units that are stored after some ticks, each with its harvest.
@@ -173,8 +172,8 @@ impl ModelOrigin {
             stored = refilled(
                 self.device.cap,
                 stored,
-                self.trace.harvest(from),
                 until - from,
+                self.trace.harvest(from),
             );
             from = until;
         }

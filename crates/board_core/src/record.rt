@@ -1,9 +1,9 @@
-ghost use Rattle.std.specs.Prelude.{◌≡◌, ◌+◌, ◌*◌, ◌<◌, ◌≤◌, ◌++◌, length, min, slice_get, vec_capacity, vec_len, Some};
+ghost use Rattle.std.specs.Prelude.{◌≡◌, ◌+◌, ◌*◌, ◌<◌, ◌≤◌, ◌++◌, length, slice_get, vec_capacity, vec_len, Some};
 ghost use Rattle.nv_memory.specs.Board.{left_of};
 ghost use Rattle.nv_memory.specs.Bytes.{bytes_at};
 ghost use Rattle.board_core.specs.Records.{IsHeld, entries_by, left_end, left_len, op_of, width};
 
-use nv_memory::{Class, Entry, Line, Op};
+use nv_memory::{Class, Entry, Line, Op, refilled};
 
 /// What an operation was, where the bytes that it left stand aside: `len` of them from `from` on.
 #[derive(Clone, Copy)]
@@ -133,14 +133,6 @@ impl What {
     }
 }
 
-/// The units that are stored after some ticks of one harvest.
-pub(crate) fn refilled(cap: u32, stored: u32, harvest: u32, ticks: u32) -> u32
-    ensures { result ≡ min cap (stored + ticks * harvest) }
-{
-    let all = stored as u64 + ticks as u64 * harvest as u64;
-    all.min(cap as u64) as u32
-}
-
 impl Record {
     /// For how many entries it stands.
     pub(crate) fn width(&self) -> u32
@@ -181,7 +173,7 @@ impl Record {
                 ..
             } => Entry {
                 tick: *tick + nth,
-                stored: refilled(cap, *stored, *harvest, nth),
+                stored: refilled(cap, *stored, nth, *harvest),
                 drawn: 0,
                 ticks: 1,
                 op: Op::Sleep,

@@ -1,6 +1,7 @@
 ghost use Rattle.std.specs.Prelude.{◌≡◌, ◌+◌, ◌*◌, ◌<◌, ◌≤◌, ◌++◌, ◌∷◌, [], length, slice_get, flat_map, replicate, ℕ, vec_capacity, vec_len, Some, IfOk};
 ghost use Rattle.std.specs.List.Sorted.{IsNonDecreasing, IsPartitionPoint};
 ghost use Rattle.cn_base.specs.declared.TheConstants.{MOST_TICKS};
+ghost use Rattle.nv_memory.specs.Asleep.{IsAsleep};
 ghost use Rattle.board_core.specs.Records.{IsKept, IsLast, IsMarked, IsNarrow, entries_by, sleeps};
 
 use crate::record::{Record, laid};
@@ -147,6 +148,20 @@ impl Timeline {
         let record = &self.records[nth];
         let first = self.ends[nth] - record.width();
         record.entry(self.cap, self.left.as_slice(), place - first)
+    }
+
+    /// How many entries from a place on lie in one record of sleep: none where the place is no sleep.
+    pub(crate) fn resting(&self, place: u32) -> u32
+        requires { place < length (entries_of self.now) }
+        ensures within { place + result ≤ length (entries_of self.now) }
+        ensures asleep { (k : ℕ) → place ≤ k → k < place + result → IsAsleep (entries_of self.now) k }
+    {
+        let nth = self.record_at(place);
+        let end = self.ends[nth];
+        match &self.records[nth] {
+            Record::Slept { .. } => end - place,
+            Record::Did { .. } => 0,
+        }
     }
 
     /// Keeps an entry where there is room.

@@ -9,8 +9,7 @@ use Rattle.calm_stretch.proofs.Worlds.{World, due, kept_in, IsShort, NonePending
 use Rattle.calm_stretch.specs.Moment.Doing.{Free, Job, Section, Wake, Save, Sleep}
 use Rattle.event_arrivals.specs.Counts.{AreCounted}
 use Rattle.calm_stretch.proofs.Sums.{all_at}
-use Rattle.calm_stretch.proofs.Demands.{job_blocks, longest_blocks}
-use Rattle.calm_stretch.proofs.Held.{Premises, arrived, work_left, IsIdle, Held}
+use Rattle.calm_stretch.proofs.Held.{Blocks, Premises, arrived, work_left, IsIdle, Held}
 use Rattle.calm_stretch.proofs.Facts.{units_of-le, units_of-step, work_left-step, taken_here, taken_other, not_short}
 
 -- where nothing is pending, no more has arrived before now than is done
@@ -20,20 +19,20 @@ arrived_done loads out counts w none =
     units_of-le loads (λ e. came out e w.tick) w.done (λ e x at. let here = none e x at in omega (arith, counts.later e w.tick (w.tick + 1) (omega arith)))
 
 -- where nothing is pending, nothing waits
-idle_none : (base : Base) (loads : List Load) (out : Outside) → AreCounted out.arrivals → (w : World) (doing : Doing) (units ticks : ℕ) (d : ℕ) → NonePending out loads w → ticks ≤ base.longest →
+idle_none : (base : Base) (loads : List Load) → Blocks base loads → (out : Outside) → AreCounted out.arrivals → (w : World) (doing : Doing) (units ticks : ℕ) (d : ℕ) → NonePending out loads w → ticks ≤ base.longest →
     IsIdle base loads out (record w { doing = doing; units = units; ticks = ticks }) d
-idle_none base loads out counts w doing units ticks d none short = (
+idle_none base loads blocks out counts w doing units ticks d none short = (
   (λ e x at. let here = none e x at in omega (arith, counts.later e (min (w.tick + 1) (d + 1 - x.deadline)) (w.tick + 1) (omega arith))),
-  omega (arith, longest_blocks base loads (d - (w.tick + 1))),
+  omega (arith, blocks.chunk (d - (w.tick + 1))),
 )
 
 -- a job that is due later blocks no longer than it may
-idle_job : (base : Base) (loads : List Load) (out : Outside) (w : World) (j : ℕ) (units ticks : ℕ) (d : ℕ) (x : Load) → IsAt loads j x →
+idle_job : (base : Base) (loads : List Load) → Blocks base loads → (out : Outside) (w : World) (j : ℕ) (units ticks : ℕ) (d : ℕ) (x : Load) → IsAt loads j x →
     0 < x.deadline → w.done j < came out j (w.tick + 1) →
     ((e : ℕ) (y : Load) → IsAt loads e y → w.done e < due out w d e y → w.done j < due out w d j x) → ticks ≤ x.ticks →
     due out w d j x ≤ w.done j →
     IsIdle base loads out (record w { doing = Job j; units = units; ticks = ticks }) d
-idle_job base loads out w j units ticks d x at pos pending first short later = (
+idle_job base loads blocks out w j units ticks d x at pos pending first short later = (
   (λ e y here. elim (cases_lt (w.done e) (due out w d e y)) [
     | inl waits ↦ let earlier = first e y here waits in absurd (omega arith)
     | inr none ↦ none
@@ -46,7 +45,7 @@ idle_job base loads out w j units ticks d x at pos pending first short later = (
             let later' : came out j (w.tick + 1) ≤ w.done j = subst (λ (n : ℕ). came out j n ≤ w.done j) least later in
             absurd (omega arith)
       ] in
-      let blocks = job_blocks base loads (d - (w.tick + 1)) j x at far in
+      let one = blocks.job (d - (w.tick + 1)) j x at far in
       omega arith),
 )
 
@@ -100,7 +99,7 @@ begun base loads reserve out s z premises w held upto (Job j) units ticks pos ma
               (λ e y here apart. let other = taken_other j w.done e apart in omega arith) one all in
               omega arith)
         ]
-        | inr later ↦ inl (idle_job base loads out w j units ticks d x at (all_at (λ y. 0 < y.deadline) loads premises.are.deadlines j x at) pending (may.3 d) may.5 later)
+        | inr later ↦ inl (idle_job base loads premises.blocks out w j units ticks d x at (all_at (λ y. 0 < y.deadline) loads premises.are.deadlines j x at) pending (may.3 d) may.5 later)
       ];
     }
 begun base loads reserve out s z premises w held upto Section units ticks pos may =
@@ -116,7 +115,7 @@ begun base loads reserve out s z premises w held upto Section units ticks pos ma
             let bounded : units ≤ base.section = may.2 in
             let few = arrived_done loads out premises.counts w none in omega arith),
       );
-      time = λ d from till. inl (idle_none base loads out premises.counts w Section units ticks d none may.3);
+      time = λ d from till. inl (idle_none base loads premises.blocks out premises.counts w Section units ticks d none may.3);
     }
 begun base loads reserve out s z premises w held upto Wake units ticks pos may =
     let none : NonePending out loads w = may.0 in
@@ -131,7 +130,7 @@ begun base loads reserve out s z premises w held upto Wake units ticks pos may =
             let bounded : units ≤ base.wake = may.3 in
             let few = arrived_done loads out premises.counts w none in omega arith),
       );
-      time = λ d from till. inl (idle_none base loads out premises.counts w Wake units ticks d none may.4);
+      time = λ d from till. inl (idle_none base loads premises.blocks out premises.counts w Wake units ticks d none may.4);
     }
 begun base loads reserve out s z premises w held upto Save units ticks pos may =
     let none : NonePending out loads w = no_short may.0 in
@@ -148,7 +147,7 @@ begun base loads reserve out s z premises w held upto Save units ticks pos may =
             let kept : kept_in base Free w.dirty ≡ base.checkpoint = ap (λ (b : Bool). kept_in base Free b) may.1 in
             omega arith),
       );
-      time = λ d from till. inl (idle_none base loads out premises.counts w Save units ticks d none may.3);
+      time = λ d from till. inl (idle_none base loads premises.blocks out premises.counts w Save units ticks d none may.3);
     }
   where
     no_short : NonePending out loads w ⊎ IsShort out loads w → NonePending out loads w
@@ -168,7 +167,7 @@ begun base loads reserve out s z premises w held upto Sleep units ticks pos may 
             let none_open : w.units ≡ 0 = held.fits.0 in
             omega arith),
       );
-      time = λ d from till. inl (idle_none base loads out premises.counts w Sleep units ticks d none may.3);
+      time = λ d from till. inl (idle_none base loads premises.blocks out premises.counts w Sleep units ticks d none may.3);
     }
   where
     no_short : NonePending out loads w ⊎ IsShort out loads w → NonePending out loads w

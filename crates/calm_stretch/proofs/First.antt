@@ -91,6 +91,9 @@ pub record LowerLaws : Type 0 where
   pub time : (base : Base) (loads : List Load) (window l : ℕ) → CanRepeat base loads → IsWindow base.p loads window → IsFeasible base loads window →
       0 < length loads → least_deadline loads ≤ l → dbf loads l + block base loads l ≤ l
   pub least : (loads : List Load) → All (λ x. least_deadline loads ≤ x.deadline) loads
+  pub falls : (base : Base) (loads : List Load) (l m : ℕ) → l ≤ m → block base loads m ≤ block base loads l
+  pub chunk : (base : Base) (loads : List Load) (l : ℕ) → base.longest ≤ block base loads l + 1
+  pub job : (base : Base) (loads : List Load) (l : ℕ) → All (λ x. l < x.deadline → x.ticks ≤ block base loads l + 1) loads
   pub counts : (lists : Lists) → AreSound lists → AreCounted lists
 
 pub premises_of : LowerLaws → (base : Base) (loads : List Load) (window : ℕ) (out : Outside) (s z : ℕ) →
@@ -103,6 +106,11 @@ premises_of laws base loads window out s z are is feasible sound spaced supplied
       room = feasible.room;
       time = λ l e x at soon. laws.time base loads window l are.repeats is feasible (some_load loads e x at)
           (let least = all_at (λ y. least_deadline loads ≤ y.deadline) loads (laws.least loads) e x at in omega arith);
+      blocks = record {
+        falls = laws.falls base loads;
+        chunk = laws.chunk base loads;
+        job = λ l e x at. all_at (λ y. l < y.deadline → y.ticks ≤ block base loads l + 1) loads (laws.job base loads l) e x at;
+      };
       counts = laws.counts out.arrivals sound;
       spaced = spaced;
       supplied = supplied;

@@ -9,11 +9,18 @@ use Rattle.calm_stretch.specs.Moment.{AreSpaced, Outside, came, gained, Doing, I
 use Rattle.calm_stretch.proofs.Worlds.{World, taken, due, kept_in}
 use Rattle.calm_stretch.specs.Moment.Doing.{Free, Job, Section, Wake, Save, Sleep}
 
+-- how long what was chosen earlier may keep a job waiting
+pub record Blocks (base : Base) (loads : List Load) : Type 0 where
+  pub falls : (l m : ℕ) → l ≤ m → block base loads m ≤ block base loads l
+  pub chunk : (l : ℕ) → base.longest ≤ block base loads l + 1
+  pub job : (l e : ℕ) (x : Load) → IsAt loads e x → l < x.deadline → x.ticks ≤ block base loads l + 1
+
 pub record Premises (base : Base) (loads : List Load) (reserve : ℕ) (out : Outside) (s z : ℕ) : Type 0 where
   pub are : AreLoads base loads
   pub energy : (l : ℕ) → rbf loads l ≤ reserve + sbf base l
   pub room : reserve + sum_by (λ x. x.units) loads + base.checkpoint + base.section + base.wake ≤ base.cap
   pub time : (l e : ℕ) (x : Load) → IsAt loads e x → x.deadline ≤ l → dbf loads l + block base loads l ≤ l
+  pub blocks : Blocks base loads
   pub counts : AreCounted out.arrivals
   pub spaced : AreSpaced loads out
   pub supplied : IsSupplied base out s z

@@ -9,7 +9,6 @@ use Rattle.calm_stretch.specs.Moment.{Outside, came, gained, Doing, taken_in}
 use Rattle.calm_stretch.proofs.Worlds.{World, taken, due, kept_in, Continues, Ends, Passes}
 use Rattle.calm_stretch.specs.Moment.Doing.{Free, Job, Section, Wake, Save, Sleep}
 use Rattle.calm_stretch.proofs.Sums.{each_or_one}
-use Rattle.calm_stretch.proofs.Demands.{block-le}
 use Rattle.calm_stretch.proofs.Supply.{gained-suc}
 use Rattle.calm_stretch.proofs.Held.{Premises, arrived, work_left, Fits, IsIdle, IsInTime, Held}
 use Rattle.calm_stretch.proofs.Facts.{units_of-le, units_of-step, units_of-each, work_left-le, work_left-dbf, taken_here, taken_other, taken-ge, has_units, one_each}
@@ -168,7 +167,7 @@ time_after base loads reserve out s z premises w v bound held next after d from 
     let ticks : v.ticks + 1 ≤ w.ticks = after.ticks in
     let blocked = idle.1 in
     elim (each_or_one loads (λ e x. due out v d e x) (λ e x. v.done e)) [
-      | inl none ↦ inl (none, omega (arith, block-le base loads (d - (v.tick + 1)) (d - (w.tick + 1)) (omega arith)))
+      | inl none ↦ inl (none, omega (arith, premises.blocks.falls (d - (v.tick + 1)) (d - (w.tick + 1)) (omega arith)))
       | inr one ↦
           let e : ℕ = one.0 in
           let x : Load = one.1 in

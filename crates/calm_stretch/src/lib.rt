@@ -4,7 +4,7 @@
 
 ghost use Rattle.calm_stretch.specs.Laws.{DeadlinesLaw};
 
-use demand_core::{closing_law, points_law};
+use demand_core::{blocking_law, closing_law, points_law};
 use event_arrivals::arrivals_are_counted;
 
 /// In every timeline by the policy, over all arrivals, harvests and losses, with a row of numbers in force at each tick: every calm
@@ -14,5 +14,6 @@ pub fn deadlines_law()
 {
     closing_law();
     points_law();
+    blocking_law();
     arrivals_are_counted();
 }

@@ -7,11 +7,11 @@ use Rattle.cat_program.specs.declared.syntax.Stmt.TheVariants.{Set, SetAt, Out, 
 use Rattle.cat_program.specs.Body.{Body, Empty, with_stmt, with_stmts, tree_of, block_at}
 use Rattle.cat_program.specs.Places.{expr_size, body_size}
 use Rattle.cat_program.specs.Checked.{EachLower}
-use Rattle.cat_program.proofs.Trees.{tree_is}
+use Rattle.cat_program.specs.PartLaws.{BlocksAreTrees}
 use Rattle.cat_machine.specs.declared.instr.Instr.{Instr}
 use Rattle.cat_machine.specs.declared.instr.Instr.TheVariants as i
 use Rattle.cat_machine.specs.Code.{expr_code, body_code}
-use Rattle.cat_machine.proofs.Sizes.{body_length}
+use Rattle.cat_machine.specs.LaidOut.{CodeHasSizes}
 
 -- a statement's code and then the rest
 abbrev first_of_two : (ℕ → Body) → ℕ → ℕ → Stmt → Body → ℕ → Type 0
@@ -68,9 +68,9 @@ pub record Emitting (blocks : List (List Stmt)) (b : ℕ) (ss : List Stmt) (star
   pub code_is : start ++ body_code (length start) (tree_of blocks b) ≡ now ++ body_code (length now) (with_stmts (tree_of blocks) b n (drop n ss))
   pub room : length now + body_size (with_stmts (tree_of blocks) b n (drop n ss)) ≤ 60000
 
-pub emitting_starts : (blocks : List (List Stmt)) (b : ℕ) (ss : List Stmt) (start : List Instr) → EachLower 0 blocks → b < length blocks → ss ≡ block_at blocks b → length start + body_size (tree_of blocks b) ≤ 60000 → Emitting blocks b ss start start 0
-emitting_starts blocks b ss start lower h e room =
-    let same : tree_of blocks b ≡ with_stmts (tree_of blocks) b 0 ss = tree_is blocks b lower h ∙ ap (with_stmts (tree_of blocks) b 0) (sym e) in
+pub emitting_starts : BlocksAreTrees → (blocks : List (List Stmt)) (b : ℕ) (ss : List Stmt) (start : List Instr) → EachLower 0 blocks → b < length blocks → ss ≡ block_at blocks b → length start + body_size (tree_of blocks b) ≤ 60000 → Emitting blocks b ss start start 0
+emitting_starts law blocks b ss start lower h e room =
+    let same : tree_of blocks b ≡ with_stmts (tree_of blocks) b 0 ss = law.tree blocks b lower h ∙ ap (with_stmts (tree_of blocks) b 0) (sym e) in
     record { code_is = ap (λ t. start ++ body_code (length start) t) same; room = omega (arith, ap body_size same) }
 
 next_drop : (ss : List Stmt) (n : ℕ) (s : Stmt) → slice_get ss n ≡ Some s → drop n ss ≡ s ∷ drop (n + 1) ss
@@ -82,12 +82,12 @@ pub emitting_room : (blocks : List (List Stmt)) (b : ℕ) (ss : List Stmt) (star
 emitting_room blocks b ss start now n s e m =
     omega (arith, m.room, ap (λ l. body_size (with_stmts (tree_of blocks) b n l)) (next_drop ss n s e), stmt_size (tree_of blocks) b n s (with_stmts (tree_of blocks) b (n + 1) (drop (n + 1) ss)))
 
-pub emitting_goes : (blocks : List (List Stmt)) (b : ℕ) (ss : List Stmt) (start now new : List Instr) (n : ℕ) (s : Stmt) → slice_get ss n ≡ Some s → Emitting blocks b ss start now n → new ≡ now ++ body_code (length now) (with_stmt (tree_of blocks) 0 0 s Empty) → Emitting blocks b ss start new (n + 1)
-emitting_goes blocks b ss start now new n s e m new_is =
+pub emitting_goes : CodeHasSizes → (blocks : List (List Stmt)) (b : ℕ) (ss : List Stmt) (start now new : List Instr) (n : ℕ) (s : Stmt) → slice_get ss n ≡ Some s → Emitting blocks b ss start now n → new ≡ now ++ body_code (length now) (with_stmt (tree_of blocks) 0 0 s Empty) → Emitting blocks b ss start new (n + 1)
+emitting_goes sizes blocks b ss start now new n s e m new_is =
     let f = tree_of blocks in
     let one = with_stmt f 0 0 s Empty in
     let rest = with_stmts f b (n + 1) (drop (n + 1) ss) in
-    let long : length new ≡ length now + body_size one = omega (arith, ap length new_is, length-append now (body_code (length now) one), body_length one (length now)) in
+    let long : length new ≡ length now + body_size one = omega (arith, ap length new_is, length-append now (body_code (length now) one), sizes.body one (length now)) in
     record {
       code_is = m.code_is
           ∙ ap (λ l. now ++ body_code (length now) (with_stmts f b n l)) (next_drop ss n s e)

@@ -1,53 +1,15 @@
 -- The lines of a listing, one after the other.
-use Rattle.std.proofs.Common.{◌≡◌, ℕ, zero, suc, ◌+◌, ◌<◌, List, [], ◌++◌, length, Option, Some, Result, Ok, Err, sym, ap, ◌∙◌, ◌-◌, arith, append_assoc, append-nil, add-one}
+use Rattle.std.proofs.Common.{◌≡◌, ℕ, List, [], length, Some, sym, ap, ◌∙◌}
 use Rattle.std.specs.Prelude.{slice_get, slice_index, unwrap_or, map}
-use Rattle.std.specs.Io.KnownBytes.{append_known}
 use Rattle.std.proofs.lemmas.List.{length-map}
-use Rattle.cn_base.specs.Writing.{IsCut, Writes}
-use Rattle.cn_base.specs.Sums.{cut_amid, cut_behind, known_on}
 use Rattle.cat_program.specs.Body.{tree_of}
 use Rattle.cat_program.specs.declared.headers.Event.{Event}
 use Rattle.cat_program.specs.Places.{tasks_size}
 use Rattle.cat_program.specs.Checked.{Checked, bodies_of, versions_of}
 use Rattle.cat_machine.specs.CodeValue.{CodeValue, versions_at}
 use Rattle.cat_machine.specs.Code.{code_of}
-use Rattle.cat_compile.specs.Listing.{in_turn, heads, name_of, task_line, version_line, task_header, version_header}
+use Rattle.cat_compile.specs.Listing.{heads, name_of, task_line, version_line, task_header, version_header}
 use Rattle.cat_compile.proofs.Regions.{tasks_entries_length, events_entries_length}
-
--- a text amid another
-record Amid (front piece text : List ℕ) : Type 0 where
-  rest : List ℕ
-  all : front ++ (piece ++ rest) ≡ text
-
-amid_by : (f : ℕ → List ℕ) (k n d : ℕ) → n ≡ suc k + d → Amid (in_turn f k) (f k) (in_turn f n)
-amid_by f k n zero e =
-    let same : suc k ≡ n = omega arith in
-    record { rest = []; all = ap (λ t. in_turn f k ++ t) (append-nil (f k)) ∙ ap (in_turn f) same }
-amid_by f k zero (suc d) e = absurd (omega arith)
-amid_by f k (suc n) (suc d) e =
-    let r = amid_by f k n d (omega arith) in
-    record {
-      rest = r.rest ++ f n;
-      all = ap (λ t. in_turn f k ++ t) (sym (append_assoc (f k) r.rest (f n)))
-          ∙ sym (append_assoc (in_turn f k) (f k ++ r.rest) (f n))
-          ∙ ap (λ t. t ++ f n) r.all;
-    }
-
-pub cut_in_turn : (f : ℕ → List ℕ) (k n : ℕ) (w0 w1 w2 : Option (List ℕ)) (piece : List ℕ) → k < n → w1 ≡ append_known w0 (in_turn f k) → piece ≡ f k → IsCut w1 w2 piece → IsCut w0 w2 (in_turn f n)
-cut_in_turn f k n w0 w1 w2 piece lt e same cut =
-    let r = amid_by f k n (n - (k + 1)) (omega arith) in
-    cut_amid w0 w1 w2 (in_turn f k) piece r.rest (in_turn f n) e (ap (λ t. in_turn f k ++ (t ++ r.rest)) same ∙ r.all) cut
-
-pub known_in_turn : (f : ℕ → List ℕ) (k : ℕ) (w0 w1 w2 : Option (List ℕ)) (piece : List ℕ) → w1 ≡ append_known w0 (in_turn f k) → piece ≡ f k → w2 ≡ append_known w1 piece → w2 ≡ append_known w0 (in_turn f (k + 1))
-known_in_turn f k w0 w1 w2 piece e same more =
-    known_on w0 w1 w2 (in_turn f k) piece e more
-    ∙ ap (λ t. append_known w0 (in_turn f k ++ t)) same
-    ∙ ap (λ j. append_known w0 (in_turn f j)) (sym (add-one k))
-
--- a text behind one that was written
-pub writes_behind : {T E : Type 0} (r : Result T E) (w0 w1 w2 : Option (List ℕ)) (a b : List ℕ) → w1 ≡ append_known w0 a → Writes w1 w2 b r → Writes w0 w2 (a ++ b) r
-writes_behind (Ok x) w0 w1 w2 a b e h = known_on w0 w1 w2 a b e h
-writes_behind (Err x) w0 w1 w2 a b e h = cut_behind w0 w1 w2 a b e h
 
 -- ---- the parts of the code
 

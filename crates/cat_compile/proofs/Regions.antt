@@ -10,8 +10,7 @@ use Rattle.cat_machine.specs.declared.instr.Instr.{Instr}
 use Rattle.cat_machine.specs.declared.instr.Instr.TheVariants as i
 use Rattle.cat_machine.specs.CodeValue.{CodeValue, entries_of}
 use Rattle.cat_machine.specs.Code.{body_code, task_code, tasks_code, tasks_entries, versions_code, versions_entries, events_code, events_entries, code_of}
-use Rattle.cat_machine.proofs.Tasks.{task_code_length}
-use Rattle.cat_machine.proofs.Entering.{tasks_code_length, version_length, versions_length}
+use Rattle.cat_machine.specs.LaidOut.{CodeHasSizes}
 
 pub drop_next : {A : Type 0} (xs : List A) (n : ℕ) (x : A) → slice_get xs n ≡ Some x → drop n xs ≡ x ∷ drop (n + 1) xs
 drop_next [] n x e = cc
@@ -52,10 +51,10 @@ module _ (p : Checked) (now : List Instr) (entries : List ℕ) (t b : ℕ) (item
   pub tasks_room : length now + 1 + body_size (tree_of p.blocks b) + 1 ≤ 60000
   tasks_room = omega (arith, loop.room, ap (λ l. tasks_size (map (tree_of p.blocks) l)) (drop_next p.tasks t b item))
 
-  pub tasks_go : (new : List Instr) (more : List ℕ) → new ≡ now ++ task_code (length now) t (tree_of p.blocks b) → more ≡ entries ++ length now ∷ [] → TasksLoop p new more (t + 1)
-  tasks_go new more e d =
+  pub tasks_go : CodeHasSizes → (new : List Instr) (more : List ℕ) → new ≡ now ++ task_code (length now) t (tree_of p.blocks b) → more ≡ entries ++ length now ∷ [] → TasksLoop p new more (t + 1)
+  tasks_go sizes new more e d =
       let body = tree_of p.blocks b in
-      let long : length new ≡ length now + task_size body = omega (arith, ap length e, length-append now (task_code (length now) t body), task_code_length (length now) t body) in
+      let long : length new ≡ length now + task_size body = omega (arith, ap length e, length-append now (task_code (length now) t body), sizes.task (length now) t body) in
       record {
         code_is = loop.code_is
             ∙ ap (λ l. now ++ tasks_code (length now) t (map (tree_of p.blocks) l)) (drop_next p.tasks t b item)
@@ -89,12 +88,12 @@ module _ (p : Checked) (vs : List ℕ) (start now : List Instr) (entries : List 
   pub versions_room : length now + body_size (tree_of p.blocks b) + 1 ≤ 60000
   versions_room = omega (arith, loop.room, ap (λ l. versions_size (map (tree_of p.blocks) l)) (drop_next vs n b item))
 
-  pub versions_go : (new : List Instr) (more : List ℕ) → new ≡ now ++ (body_code (length now) (tree_of p.blocks b) ++ i.End ∷ []) → more ≡ entries ++ length now ∷ [] → VersionsLoop p vs start new more (n + 1)
-  versions_go new more e d =
+  pub versions_go : CodeHasSizes → (new : List Instr) (more : List ℕ) → new ≡ now ++ (body_code (length now) (tree_of p.blocks b) ++ i.End ∷ []) → more ≡ entries ++ length now ∷ [] → VersionsLoop p vs start new more (n + 1)
+  versions_go sizes new more e d =
       let body = tree_of p.blocks b in
       let piece = body_code (length now) body ++ i.End ∷ [] in
       let rest = map (tree_of p.blocks) (drop (n + 1) vs) in
-      let long : length new ≡ length now + version_size body = omega (arith, ap length e, length-append now piece, version_length body (length now)) in
+      let long : length new ≡ length now + version_size body = omega (arith, ap length e, length-append now piece, sizes.version body (length now)) in
       record {
         code_is = loop.code_is
             ∙ ap (λ l. now ++ versions_code (length now) (map (tree_of p.blocks) l)) (drop_next vs n b item)
@@ -124,19 +123,19 @@ pub record EventsLoop (p : Checked) (start now : List Instr) (entries : List (Li
   pub entries_are : events_entries (length start) (versions_of p) ≡ entries ++ events_entries (length now) (bodies_of_events p (drop n p.events))
   pub room : length now + events_size (bodies_of_events p (drop n p.events)) ≤ 60000
 
-pub events_start : (p : Checked) (start : List Instr) → IsChecked p → start ≡ tasks_code 0 0 (bodies_of p) → EventsLoop p start start [] 0
-events_start p start checked e =
-    record { code_is = refl; entries_are = refl; room = omega (arith, checked.short, ap length e, tasks_code_length (bodies_of p) 0 0) }
+pub events_start : CodeHasSizes → (p : Checked) (start : List Instr) → IsChecked p → start ≡ tasks_code 0 0 (bodies_of p) → EventsLoop p start start [] 0
+events_start sizes p start checked e =
+    record { code_is = refl; entries_are = refl; room = omega (arith, checked.short, ap length e, sizes.tasks (bodies_of p) 0 0) }
 
 module _ (p : Checked) (start now : List Instr) (entries : List (List ℕ)) (n : ℕ) (vs : List ℕ) (item : slice_get p.events n ≡ Some vs) (loop : EventsLoop p start now entries n) where
   pub events_room : length now + versions_size (map (tree_of p.blocks) vs) ≤ 60000
   events_room = omega (arith, loop.room, ap (λ l. events_size (bodies_of_events p l)) (drop_next p.events n vs item))
 
-  pub events_go : (new : List Instr) (some : List ℕ) (more : List (List ℕ)) → new ≡ now ++ versions_code (length now) (map (tree_of p.blocks) vs) → some ≡ versions_entries (length now) (map (tree_of p.blocks) vs) → more ≡ entries ++ some ∷ [] → EventsLoop p start new more (n + 1)
-  events_go new some more e s d =
+  pub events_go : CodeHasSizes → (new : List Instr) (some : List ℕ) (more : List (List ℕ)) → new ≡ now ++ versions_code (length now) (map (tree_of p.blocks) vs) → some ≡ versions_entries (length now) (map (tree_of p.blocks) vs) → more ≡ entries ++ some ∷ [] → EventsLoop p start new more (n + 1)
+  events_go sizes new some more e s d =
       let bodies = map (tree_of p.blocks) vs in
       let rest = bodies_of_events p (drop (n + 1) p.events) in
-      let long : length new ≡ length now + versions_size bodies = omega (arith, ap length e, length-append now (versions_code (length now) bodies), versions_length bodies (length now)) in
+      let long : length new ≡ length now + versions_size bodies = omega (arith, ap length e, length-append now (versions_code (length now) bodies), sizes.versions bodies (length now)) in
       record {
         code_is = loop.code_is
             ∙ ap (λ l. now ++ events_code (length now) (bodies_of_events p l)) (drop_next p.events n vs item)
@@ -162,22 +161,22 @@ events_end p start now entries n le loop =
 abbrev code_by : List Instr → List ℕ → List (List ℕ) → CodeValue
 code_by instrs tasks versions = record { instrs = instrs; tasks = tasks; versions = versions }
 
-pub whole_is : (p : Checked) (middle all : List Instr) (tasks : List ℕ) (versions : List (List ℕ)) → middle ≡ tasks_code 0 0 (bodies_of p) → tasks ≡ tasks_entries 0 (bodies_of p) → all ≡ middle ++ events_code (length middle) (versions_of p) → versions ≡ events_entries (length middle) (versions_of p) → record { instrs = all; tasks = tasks; versions = versions } ≡ code_of p
+pub whole_is : CodeHasSizes → (p : Checked) (middle all : List Instr) (tasks : List ℕ) (versions : List (List ℕ)) → middle ≡ tasks_code 0 0 (bodies_of p) → tasks ≡ tasks_entries 0 (bodies_of p) → all ≡ middle ++ events_code (length middle) (versions_of p) → versions ≡ events_entries (length middle) (versions_of p) → record { instrs = all; tasks = tasks; versions = versions } ≡ code_of p
 unfolding code_of
-whole_is p middle all tasks versions m t a v =
-    let long : length middle ≡ tasks_size (bodies_of p) = ap length m ∙ tasks_code_length (bodies_of p) 0 0 in
+whole_is sizes p middle all tasks versions m t a v =
+    let long : length middle ≡ tasks_size (bodies_of p) = ap length m ∙ sizes.tasks (bodies_of p) 0 0 in
     ap (λ l. code_by l tasks versions) (a ∙ ap (λ j. middle ++ events_code j (versions_of p)) long ∙ ap (λ l. l ++ events_code (tasks_size (bodies_of p)) (versions_of p)) m)
     ∙ ap (λ l. code_by (tasks_code 0 0 (bodies_of p) ++ events_code (tasks_size (bodies_of p)) (versions_of p)) l versions) t
     ∙ ap (λ l. code_by (tasks_code 0 0 (bodies_of p) ++ events_code (tasks_size (bodies_of p)) (versions_of p)) (tasks_entries 0 (bodies_of p)) l) (v ∙ ap (λ j. events_entries j (versions_of p)) long)
 
-events_length : (events : List (List Body)) (at : ℕ) → length (events_code at events) ≡ events_size events
-events_length [] at = refl
-events_length (event ∷ events) at =
-    omega (arith, length-append (versions_code at event) (events_code (at + versions_size event) events), versions_length event at, events_length events (at + versions_size event))
+events_length : CodeHasSizes → (events : List (List Body)) (at : ℕ) → length (events_code at events) ≡ events_size events
+events_length sizes [] at = refl
+events_length sizes (event ∷ events) at =
+    omega (arith, length-append (versions_code at event) (events_code (at + versions_size event) events), sizes.versions event at, events_length sizes events (at + versions_size event))
 
-pub whole_short : (p : Checked) (middle all : List Instr) → IsChecked p → middle ≡ tasks_code 0 0 (bodies_of p) → all ≡ middle ++ events_code (length middle) (versions_of p) → length all ≤ 60000
-whole_short p middle all checked m a =
-    omega (arith, checked.short, ap length m, tasks_code_length (bodies_of p) 0 0, ap length a, length-append middle (events_code (length middle) (versions_of p)), events_length (versions_of p) (length middle))
+pub whole_short : CodeHasSizes → (p : Checked) (middle all : List Instr) → IsChecked p → middle ≡ tasks_code 0 0 (bodies_of p) → all ≡ middle ++ events_code (length middle) (versions_of p) → length all ≤ 60000
+whole_short sizes p middle all checked m a =
+    omega (arith, checked.short, ap length m, sizes.tasks (bodies_of p) 0 0, ap length a, length-append middle (events_code (length middle) (versions_of p)), events_length sizes (versions_of p) (length middle))
 
 pub tasks_entries_length : (bodies : List Body) (at : ℕ) → length (tasks_entries at bodies) ≡ length bodies
 tasks_entries_length [] at = refl

@@ -1,6 +1,7 @@
 -- The text of a listing.
-use Rattle.std.specs.Prelude.{ℕ, zero, suc, ◌==◌, if◌then◌else◌, List, [], ◌∷◌, ◌++◌, length, Option, Some, None, slice_get, slice_index, unwrap_or, codes, decimal}
+use Rattle.std.specs.Prelude.{ℕ, ◌==◌, if◌then◌else◌, List, [], ◌∷◌, ◌++◌, length, Option, Some, None, slice_get, slice_index, unwrap_or, codes, decimal}
 use Rattle.std.specs.Fmt.{signed_decimal}
+use Rattle.cn_base.specs.Texts.{line, in_turn}
 use Rattle.cat_program.specs.declared.syntax.Operator.{Operator}
 use Rattle.cat_program.specs.declared.syntax.Operator.TheVariants as op
 use Rattle.cat_program.specs.declared.syntax.Sign.{Sign}
@@ -10,12 +11,6 @@ use Rattle.cat_program.specs.Checked.{Checked}
 use Rattle.cat_machine.specs.declared.instr.Instr.{Instr}
 use Rattle.cat_machine.specs.declared.instr.Instr.TheVariants as i
 use Rattle.cat_machine.specs.CodeValue.{CodeValue, versions_at}
-
--- words with one space between them, and the end of the line
-abbrev pub line : List (List ℕ) → List ℕ
-line [] = codes "\n"
-line (word ∷ []) = word ++ codes "\n"
-line (word ∷ words) = word ++ (codes " " ++ line words)
 
 abbrev pub sign_word : Sign → List ℕ
 sign_word Neg = codes "neg"
@@ -62,11 +57,6 @@ task_line name pc = line (codes "task" ∷ name ∷ decimal pc ∷ [])
 
 abbrev pub version_line : List ℕ → ℕ → ℕ → List ℕ
 version_line name version pc = line (codes "event" ∷ name ∷ decimal version ∷ decimal pc ∷ [])
-
--- the texts of 0, 1 and so on below n, one after the other
-abbrev pub in_turn : (ℕ → List ℕ) → ℕ → List ℕ
-in_turn text zero = []
-in_turn text (suc n) = in_turn text n ++ text n
 
 -- a header, at the place where the code that it heads begins
 abbrev pub heads : ℕ → ℕ → List ℕ → List ℕ

@@ -3,12 +3,13 @@
 ghost use Rattle.std.specs.Prelude.{◌≡◌, [], ◌∷◌, decimal};
 ghost use Rattle.std.specs.Fmt.{signed_decimal};
 ghost use Rattle.cn_base.specs.Causes.{HasCause};
-ghost use Rattle.cn_base.specs.Writing.{Writes};
-ghost use Rattle.cat_compile.specs.Listing.{line, sign_word, operator_word, instr_line, task_line, version_line, heads};
+ghost use Rattle.cn_base.specs.PageWords.{AddsTo, sink_in, sink_name};
+ghost use Rattle.cn_base.specs.Texts.{line};
+ghost use Rattle.cat_compile.specs.Listing.{sign_word, operator_word, instr_line, task_line, version_line, heads};
 
 use cat_machine::Instr;
 use cat_program::{Operator, Sign};
-use cn_base::{Piece, Sink, WriteFail, put_line};
+use cn_base::{Page, Piece, Sink, WriteFail};
 
 fn sign_name(sign: Sign) -> &'static [u8]
     ensures { result.now ≡ sign_word sign }
@@ -40,133 +41,134 @@ fn operator_name(operator: Operator) -> &'static [u8]
 }
 
 /// The line of an instruction without numbers.
-fn put_bare<K: Sink>(sink: &mut K, pc: u32, name: &[u8]) -> Result<(), WriteFail>
-    ensures text { Writes (K.written sink.old) (K.written sink.new) (line (decimal pc ∷ name.now ∷ [])) result }
-    ensures cause { HasCause (K.faults sink.old) (K.faults sink.new) result }
+fn add_bare<K: Sink>(page: &mut Page<'_, K>, pc: u32, name: &[u8]) -> Result<(), WriteFail>
+    ensures same_sink { sink_name page.new ≡ sink_name page.old }
+    ensures text { AddsTo K.written page.old page.new (line (decimal pc ∷ name.now ∷ [])) result }
+    ensures cause { HasCause (K.faults (sink_in page.old)) (K.faults (sink_in page.new)) result }
 {
-    put_line(
-        sink,
-        &[
-            Piece::Number(i128::from(pc)),
-            Piece::Text(b" "),
-            Piece::Text(name),
-            Piece::Text(b"\n"),
-        ],
-    )
+    page.line(&[
+        Piece::Number(i128::from(pc)),
+        Piece::Text(b" "),
+        Piece::Text(name),
+        Piece::Text(b"\n"),
+    ])
 }
 
 /// The line of an instruction with one number.
-fn put_one<K: Sink>(sink: &mut K, pc: u32, name: &[u8], number: i128) -> Result<(), WriteFail>
-    ensures text { Writes (K.written sink.old) (K.written sink.new) (line (decimal pc ∷ name.now ∷ signed_decimal number ∷ [])) result }
-    ensures cause { HasCause (K.faults sink.old) (K.faults sink.new) result }
+fn add_one<K: Sink>(
+    page: &mut Page<'_, K>,
+    pc: u32,
+    name: &[u8],
+    number: i128,
+) -> Result<(), WriteFail>
+    ensures same_sink { sink_name page.new ≡ sink_name page.old }
+    ensures text { AddsTo K.written page.old page.new (line (decimal pc ∷ name.now ∷ signed_decimal number ∷ [])) result }
+    ensures cause { HasCause (K.faults (sink_in page.old)) (K.faults (sink_in page.new)) result }
 {
-    put_line(
-        sink,
-        &[
-            Piece::Number(i128::from(pc)),
-            Piece::Text(b" "),
-            Piece::Text(name),
-            Piece::Text(b" "),
-            Piece::Number(number),
-            Piece::Text(b"\n"),
-        ],
-    )
+    page.line(&[
+        Piece::Number(i128::from(pc)),
+        Piece::Text(b" "),
+        Piece::Text(name),
+        Piece::Text(b" "),
+        Piece::Number(number),
+        Piece::Text(b"\n"),
+    ])
 }
 
 /// The line of an instruction on an array.
-fn put_array<K: Sink>(
-    sink: &mut K,
+fn add_array<K: Sink>(
+    page: &mut Page<'_, K>,
     pc: u32,
     name: &[u8],
     base: u16,
     len: u16,
 ) -> Result<(), WriteFail>
-    ensures text { Writes (K.written sink.old) (K.written sink.new) (line (decimal pc ∷ name.now ∷ decimal base ∷ decimal len ∷ [])) result }
-    ensures cause { HasCause (K.faults sink.old) (K.faults sink.new) result }
+    ensures same_sink { sink_name page.new ≡ sink_name page.old }
+    ensures text { AddsTo K.written page.old page.new (line (decimal pc ∷ name.now ∷ decimal base ∷ decimal len ∷ [])) result }
+    ensures cause { HasCause (K.faults (sink_in page.old)) (K.faults (sink_in page.new)) result }
 {
-    put_line(
-        sink,
-        &[
-            Piece::Number(i128::from(pc)),
-            Piece::Text(b" "),
-            Piece::Text(name),
-            Piece::Text(b" "),
-            Piece::Number(i128::from(base)),
-            Piece::Text(b" "),
-            Piece::Number(i128::from(len)),
-            Piece::Text(b"\n"),
-        ],
-    )
+    page.line(&[
+        Piece::Number(i128::from(pc)),
+        Piece::Text(b" "),
+        Piece::Text(name),
+        Piece::Text(b" "),
+        Piece::Number(i128::from(base)),
+        Piece::Text(b" "),
+        Piece::Number(i128::from(len)),
+        Piece::Text(b"\n"),
+    ])
 }
 
 /// The line of an instruction: its place, its name and its numbers.
-pub fn put_instr<K: Sink>(sink: &mut K, pc: u32, instr: Instr) -> Result<(), WriteFail>
-    ensures text { Writes (K.written sink.old) (K.written sink.new) (instr_line pc instr) result }
-    ensures cause { HasCause (K.faults sink.old) (K.faults sink.new) result }
+pub fn add_instr<K: Sink>(page: &mut Page<'_, K>, pc: u32, instr: Instr) -> Result<(), WriteFail>
+    ensures same_sink { sink_name page.new ≡ sink_name page.old }
+    ensures text { AddsTo K.written page.old page.new (instr_line pc instr) result }
+    ensures cause { HasCause (K.faults (sink_in page.old)) (K.faults (sink_in page.new)) result }
 {
     match instr {
-        Instr::Push(n) => put_one(sink, pc, b"push", i128::from(n)),
-        Instr::Load(word) => put_one(sink, pc, b"load", i128::from(word)),
-        Instr::Payload => put_bare(sink, pc, b"payload"),
-        Instr::Signed(sign) => put_bare(sink, pc, sign_name(sign)),
-        Instr::Operate(operator) => put_bare(sink, pc, operator_name(operator)),
-        Instr::Jump(to) => put_one(sink, pc, b"jump", i128::from(to)),
-        Instr::JumpZero(to) => put_one(sink, pc, b"jumpzero", i128::from(to)),
-        Instr::Turn(to) => put_one(sink, pc, b"turn", i128::from(to)),
-        Instr::Begin(task) => put_one(sink, pc, b"begin", i128::from(task)),
-        Instr::End => put_bare(sink, pc, b"end"),
-        Instr::LoadAt { base, len } => put_array(sink, pc, b"loadat", base, len),
-        Instr::Store(word) => put_one(sink, pc, b"store", i128::from(word)),
-        Instr::StoreAt { base, len } => put_array(sink, pc, b"storeat", base, len),
-        Instr::Post(task) => put_one(sink, pc, b"post", i128::from(task)),
-        Instr::Out(channel) => put_one(sink, pc, b"out", i128::from(channel)),
+        Instr::Push(n) => add_one(page, pc, b"push", i128::from(n)),
+        Instr::Load(word) => add_one(page, pc, b"load", i128::from(word)),
+        Instr::Payload => add_bare(page, pc, b"payload"),
+        Instr::Signed(sign) => add_bare(page, pc, sign_name(sign)),
+        Instr::Operate(operator) => add_bare(page, pc, operator_name(operator)),
+        Instr::Jump(to) => add_one(page, pc, b"jump", i128::from(to)),
+        Instr::JumpZero(to) => add_one(page, pc, b"jumpzero", i128::from(to)),
+        Instr::Turn(to) => add_one(page, pc, b"turn", i128::from(to)),
+        Instr::Begin(task) => add_one(page, pc, b"begin", i128::from(task)),
+        Instr::End => add_bare(page, pc, b"end"),
+        Instr::LoadAt { base, len } => add_array(page, pc, b"loadat", base, len),
+        Instr::Store(word) => add_one(page, pc, b"store", i128::from(word)),
+        Instr::StoreAt { base, len } => add_array(page, pc, b"storeat", base, len),
+        Instr::Post(task) => add_one(page, pc, b"post", i128::from(task)),
+        Instr::Out(channel) => add_one(page, pc, b"out", i128::from(channel)),
     }
 }
 
 /// The header of a task, where the task begins at this place.
-pub fn put_task<K: Sink>(sink: &mut K, name: &str, entry: u32, pc: u32) -> Result<(), WriteFail>
-    ensures text { Writes (K.written sink.old) (K.written sink.new) (heads entry pc (task_line name.now pc)) result }
-    ensures cause { HasCause (K.faults sink.old) (K.faults sink.new) result }
+pub fn add_task<K: Sink>(
+    page: &mut Page<'_, K>,
+    name: &str,
+    entry: u32,
+    pc: u32,
+) -> Result<(), WriteFail>
+    ensures same_sink { sink_name page.new ≡ sink_name page.old }
+    ensures text { AddsTo K.written page.old page.new (heads entry pc (task_line name.now pc)) result }
+    ensures cause { HasCause (K.faults (sink_in page.old)) (K.faults (sink_in page.new)) result }
 {
     if entry != pc {
         return Ok(());
     }
-    put_line(
-        sink,
-        &[
-            Piece::Text(b"task "),
-            Piece::Text(name.as_bytes()),
-            Piece::Text(b" "),
-            Piece::Number(i128::from(pc)),
-            Piece::Text(b"\n"),
-        ],
-    )
+    page.line(&[
+        Piece::Text(b"task "),
+        Piece::Text(name.as_bytes()),
+        Piece::Text(b" "),
+        Piece::Number(i128::from(pc)),
+        Piece::Text(b"\n"),
+    ])
 }
 
 /// The header of a version of an event, where the version begins at this place.
-pub fn put_version<K: Sink>(
-    sink: &mut K,
+pub fn add_version<K: Sink>(
+    page: &mut Page<'_, K>,
     name: &str,
     version: usize,
     entry: u32,
     pc: u32,
 ) -> Result<(), WriteFail>
-    ensures text { Writes (K.written sink.old) (K.written sink.new) (heads entry pc (version_line name.now version pc)) result }
-    ensures cause { HasCause (K.faults sink.old) (K.faults sink.new) result }
+    ensures same_sink { sink_name page.new ≡ sink_name page.old }
+    ensures text { AddsTo K.written page.old page.new (heads entry pc (version_line name.now version pc)) result }
+    ensures cause { HasCause (K.faults (sink_in page.old)) (K.faults (sink_in page.new)) result }
 {
     if entry != pc {
         return Ok(());
     }
-    put_line(
-        sink,
-        &[
-            Piece::Text(b"event "),
-            Piece::Text(name.as_bytes()),
-            Piece::Text(b" "),
-            Piece::Number(version as i128),
-            Piece::Text(b" "),
-            Piece::Number(i128::from(pc)),
-            Piece::Text(b"\n"),
-        ],
-    )
+    page.line(&[
+        Piece::Text(b"event "),
+        Piece::Text(name.as_bytes()),
+        Piece::Text(b" "),
+        Piece::Number(version as i128),
+        Piece::Text(b" "),
+        Piece::Number(i128::from(pc)),
+        Piece::Text(b"\n"),
+    ])
 }

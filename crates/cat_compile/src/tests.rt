@@ -1,7 +1,7 @@
-use crate::lines::{put_instr, put_task, put_version};
+use crate::lines::{add_instr, add_task, add_version};
 use cat_machine::Instr;
 use cat_program::{Operator, Sign};
-use cn_base::MemSink;
+use cn_base::{MemSink, Page};
 use std::test::Fail;
 
 const LISTED: &[u8] = b"task t 0
@@ -43,12 +43,14 @@ fn lines_of_a_listing(rt: HostRuntime) -> Result<(), Fail> {
         Instr::End,
     ];
     let mut sink = MemSink::new(rt.alloc(), 300, 7)?;
+    let mut page = Page::on(&mut sink);
     for (place, instr) in instrs.iter().enumerate() {
         let pc = place as u32;
-        put_task(&mut sink, "t", 0, pc)?;
-        put_version(&mut sink, "e", 1, 14, pc)?;
-        put_instr(&mut sink, pc, *instr)?;
+        add_task(&mut page, "t", 0, pc)?;
+        add_version(&mut page, "e", 1, 14, pc)?;
+        add_instr(&mut page, pc, *instr)?;
     }
+    page.close()?;
     assert_eq!(rt; sink.bytes(), LISTED);
     Ok(())
 }

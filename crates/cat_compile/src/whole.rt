@@ -8,7 +8,7 @@ ghost use Rattle.cat_machine.specs.declared.instr.Instr.TheVariants as i;
 
 use crate::emit::emit_block;
 use crate::expr::put;
-use cat_machine::{Code, Instr};
+use cat_machine::{Code, Instr, code_is_laid_out};
 use cat_program::Program;
 use cn_base::NoMemory;
 use std::alloc::{AllocError, Global};
@@ -45,6 +45,7 @@ fn emit_tasks(
     ensures code { OnOk result (code.new.items ≡ tasks_code 0 0 (bodies_of program.now)) }
     ensures entries { IfOk result (λ e. e.items ≡ tasks_entries 0 (bodies_of program.now)) }
 {
+    code_is_laid_out();
     let mut entries = Vec::new(alloc);
     let tasks = program.bodies();
     for (t, b) in tasks.iter().enumerate() {
@@ -67,6 +68,7 @@ fn emit_event(
     ensures code { OnOk result (code.new.items ≡ code.old.items ++ versions_code (length code.old.items) (map (tree_of program.now.blocks) versions.now)) }
     ensures entries { IfOk result (λ e. e.items ≡ versions_entries (length code.old.items) (map (tree_of program.now.blocks) versions.now)) }
 {
+    code_is_laid_out();
     let mut entries = Vec::new(alloc);
     for b in versions {
         entries.push(code.len() as u32)?;
@@ -86,6 +88,7 @@ fn emit_events(
     ensures code { OnOk result (code.new.items ≡ code.old.items ++ events_code (length code.old.items) (versions_of program.now)) }
     ensures entries { IfOk result (λ e. entries_of e.items ≡ events_entries (length code.old.items) (versions_of program.now)) }
 {
+    code_is_laid_out();
     let mut all = Vec::new(alloc);
     let events = program.versions();
     for event in events {
@@ -99,6 +102,7 @@ fn emit_events(
 fn whole_code(alloc: Global, program: &Program) -> Result<Code, AllocError>
     ensures { IfOk result (λ code. code ≡ code_of program.now) }
 {
+    code_is_laid_out();
     let _checked = program.bodies();
     let mut code = Vec::new(alloc);
     let tasks = emit_tasks(alloc, program, &mut code)?;

@@ -99,9 +99,9 @@ IsFault ps (fault.CodeTooLong place) = FailsAt (take 15 all_conditions) ps code_
 IsFault ps fault.NoMemory = ⊤
 
 -- all conditions hold of the tree
-abbrev pub IsChecked : Tree → Type 0
-IsChecked tree = AllHold all_conditions (pieces tree)
+abbrev pub MeetsConditions : Tree → Type 0
+MeetsConditions tree = AllHold all_conditions (pieces tree)
 
 -- the tree is checked, or this is the lowest condition that fails, with its first piece that offends
 abbrev pub IsVerdict : {T : Type 0} → Tree → Result T TypeFault → Type 0
-IsVerdict tree result = MatchResult result (λ _. IsChecked tree) (λ f. IsFault (pieces tree) f)
+IsVerdict tree result = MatchResult result (λ _. MeetsConditions tree) (λ f. IsFault (pieces tree) f)

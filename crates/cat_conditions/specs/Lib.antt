@@ -6,3 +6,4 @@ pub mod Offences
 pub mod Pieces
 pub mod Plain
 pub mod Types
+pub mod PlainKinds

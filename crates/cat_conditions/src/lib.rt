@@ -3,7 +3,9 @@
 #![tactic(auto)]
 
 mod fault;
+mod laws;
 mod sort;
 
 pub use fault::TypeFault;
+pub use laws::plain_law;
 pub use sort::{Sort, ValueType};

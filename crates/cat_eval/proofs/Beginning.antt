@@ -8,8 +8,8 @@ use Rattle.cat_program.specs.declared.syntax.Stepped.TheVariants.{None as NoStep
 use Rattle.cat_program.specs.Body.{Body, Empty, Plain, When, Choice, Loop, Turns, join, tree_of}
 use Rattle.cat_program.specs.Places.{body_size, tasks_size}
 use Rattle.cat_program.specs.Meaning.{Store, TaskState, TaskStep, lowered, first_posted, taken, step_from, task_step_of, list_step, quietly}
-use Rattle.cat_program.specs.Checked.{Checked, IsChecked, TaskWorks, EachTaskWorks, EachShallow, body_at, depth_of}
-use Rattle.cat_program.proofs.Members.{below_at}
+use Rattle.cat_program.specs.Checked.{Checked, IsChecked, TaskWorks, body_at, depth_of}
+use Rattle.cat_program.specs.PartLaws.{EachPart, BlocksAreTrees}
 use Rattle.cat_eval.specs.declared.state.Frame.{Frame}
 use Rattle.cat_eval.specs.StateValue.{StateValue}
 use Rattle.cat_eval.specs.Cursor.{first_frame, frame_body, cursor_body, current_of, state_of, FrameFits, Fits, AtFrame, Settled}
@@ -24,33 +24,22 @@ join_empty (Choice b p e on off rest) = ap (Choice b p e on off) (join_empty res
 join_empty (Loop b p e body rest) = ap (Loop b p e body) (join_empty rest)
 join_empty (Turns b p n body rest) = ap (Turns b p n body) (join_empty rest)
 
--- what each task's tree keeps
 module _ (g : ℕ → Body) where
-  shallow_at : (bs : List ℕ) (t : ℕ) → t < length bs → EachShallow (map g bs) → depth_of (g (slice_index bs t)) ≤ 32
-  shallow_at [] t h each = absurd (omega arith)
-  shallow_at (b ∷ bs) zero h each = each.0
-  shallow_at (b ∷ bs) (suc t) h each = shallow_at bs t (omega arith) each.1
-
-  works_at : (w n : ℕ) (bs : List ℕ) (t : ℕ) → t < length bs → EachTaskWorks w n (map g bs) → TaskWorks w n (g (slice_index bs t))
-  works_at w n [] t h each = absurd (omega arith)
-  works_at w n (b ∷ bs) zero h each = each.0
-  works_at w n (b ∷ bs) (suc t) h each = works_at w n bs t (omega arith) each.1
-
   size_at : (bs : List ℕ) (t : ℕ) → t < length bs → body_size (g (slice_index bs t)) ≤ tasks_size (map g bs)
   size_at [] t h = absurd (omega arith)
   size_at (b ∷ bs) zero h = omega arith
   size_at (b ∷ bs) (suc t) h = omega (arith, size_at bs t (omega arith))
 
-pub task_fits : (p : Checked) → IsChecked p → (t : ℕ) → t < length p.tasks → FrameFits p 0 (first_frame (slice_index p.tasks t))
-task_fits p checked t h =
+pub task_fits : (p : Checked) → BlocksAreTrees → EachPart p → IsChecked p → (t : ℕ) → t < length p.tasks → FrameFits p 0 (first_frame (slice_index p.tasks t))
+task_fits p law parts checked t h =
     let b = slice_index p.tasks t in
-    let within = below_at (length p.blocks) p.tasks t checked.tasks_in h in
-    let first = frame_first p checked b within in
+    let task = parts.tasks t h in
+    let first = frame_first law p checked b task.block in
     record {
-      block = within;
-      depth = omega (arith, ap depth_of first, shallow_at (tree_of p.blocks) p.tasks t h checked.tasks_shallow);
+      block = task.block;
+      depth = omega (arith, ap depth_of first, task.shallow);
       size = omega (arith, ap body_size first, size_at (tree_of p.blocks) p.tasks t h, checked.short);
-      works = subst (TaskWorks (length p.words) (length p.tasks)) (sym first) (works_at (tree_of p.blocks) (length p.words) (length p.tasks) p.tasks t h checked.tasks_work);
+      works = subst (TaskWorks (length p.words) (length p.tasks)) (sym first) task.works;
     }
 
 pub posted_task : (p : Checked) (s : StateValue) (t : ℕ) → Fits p s → first_posted s.posts ≡ Some t → t < length p.tasks
@@ -64,18 +53,18 @@ module _ (p : Checked) (old : StateValue) (fits : Fits p old) (idle : old.runnin
   pub none_is : first_posted old.posts ≡ None → StepsAs p old NoStep old
   none_is first = subst (λ o. MatchOption o ((NoStep ≡ NoStep) × (old ≡ old)) (λ step. StepIs p step NoStep old)) (sym (idle_step ∙ ap (taken (body_at p) (store_of old)) first)) (refl, refl)
 
-  pub begins : (t : ℕ) (new : StateValue) → first_posted old.posts ≡ Some t → new ≡ record { words = old.words; posts = lowered old.posts t; running = true; frames = first_frame (slice_index p.tasks t) ∷ old.frames } → StepsAs p old Quiet new
-  begins t new first state =
+  pub begins : BlocksAreTrees → EachPart p → (t : ℕ) (new : StateValue) → first_posted old.posts ≡ Some t → new ≡ record { words = old.words; posts = lowered old.posts t; running = true; frames = first_frame (slice_index p.tasks t) ∷ old.frames } → StepsAs p old Quiet new
+  begins law parts t new first state =
       let within = posted_task p old t fits first in
       let b = slice_index p.tasks t in
       let store : Store = record { words = old.words; posts = lowered old.posts t } in
       let after : StateValue = record { words = old.words; posts = lowered old.posts t; running = true; frames = first_frame b ∷ [] } in
       let here : new ≡ after = state ∙ ap (λ fs. let v : StateValue = record { words = old.words; posts = lowered old.posts t; running = true; frames = first_frame b ∷ fs } in v) (fits.idle idle) in
-      let body : cursor_body p (first_frame b ∷ []) ≡ body_at p t = join_empty (frame_body p (frame b 0)) ∙ frame_first p fits.checked b (below_at (length p.blocks) p.tasks t fits.checked.tasks_in within) in
+      let body : cursor_body p (first_frame b ∷ []) ≡ body_at p t = join_empty (frame_body p (frame b 0)) ∙ frame_first law p fits.checked b (parts.tasks t within).block in
       let is : StepIs p (quietly store (Some (body_at p t))) Quiet after = record {
         answers = refl;
         after = ap (λ k. let s : TaskState = record { store = store; current = Some k } in s) body;
-        fits = record { checked = fits.checked; words_are = fits.words_are; posts_are = length-set old.posts t _ ∙ fits.posts_are; cursor = (task_fits p fits.checked t within, tt); idle = λ x. cc };
+        fits = record { checked = fits.checked; words_are = fits.words_are; posts_are = length-set old.posts t _ ∙ fits.posts_are; cursor = (task_fits p law parts fits.checked t within, tt); idle = λ x. cc };
       } in
       subst (λ n. StepsAs p old Quiet n) (sym here)
       (subst (λ o. MatchOption o ((Quiet ≡ NoStep) × (after ≡ old)) (λ step. StepIs p step Quiet after)) (sym (idle_step ∙ ap (taken (body_at p) (store_of old)) first)) is)

@@ -9,7 +9,7 @@ use Rattle.cat_program.specs.Body.{Body, Empty, Plain, When, Choice, Loop, Turns
 use Rattle.cat_program.specs.Value.{value_of}
 use Rattle.cat_program.specs.Meaning.{Store, quietly, chosen, list_step}
 use Rattle.cat_program.specs.Checked.{Checked, IsChecked, depth_of}
-use Rattle.cat_program.proofs.Trees.{tree_is}
+use Rattle.cat_program.specs.PartLaws.{BlocksAreTrees}
 use Rattle.cat_eval.specs.declared.state.Frame.{Frame}
 use Rattle.cat_eval.specs.Cursor.{frame_body, cursor_body, CursorFits, Settled}
 use Rattle.cat_eval.specs.StateValue.{StateValue}
@@ -31,14 +31,14 @@ pub frame_over : (p : Checked) (b n : ℕ) → length (block_at p.blocks b) ≤ 
 frame_over p b n le = ap (with_stmts (tree_of p.blocks) b n) (drop_all n (block_at p.blocks b) le)
 
 -- a frame at a block's beginning is the block
-pub frame_first : (p : Checked) → IsChecked p → (b : ℕ) → b < length p.blocks → frame_body p (frame b 0) ≡ tree_of p.blocks b
-frame_first p checked b h = sym (tree_is p.blocks b checked.lower h)
+pub frame_first : BlocksAreTrees → (p : Checked) → IsChecked p → (b : ℕ) → b < length p.blocks → frame_body p (frame b 0) ≡ tree_of p.blocks b
+frame_first law p checked b h = sym (law.tree p.blocks b checked.lower h)
 
 -- so a frame at its end may be dropped
 pub cursor_over : (p : Checked) (b n : ℕ) (fs : List Frame) → length (block_at p.blocks b) ≤ n → cursor_body p (frame b n ∷ fs) ≡ cursor_body p fs
 cursor_over p b n fs le = ap (λ x. join x (cursor_body p fs)) (frame_over p b n le)
 
-module _ (p : Checked) (checked : IsChecked p) (b n : ℕ) (fs : List Frame) where
+module _ (law : BlocksAreTrees) (p : Checked) (checked : IsChecked p) (b n : ℕ) (fs : List Frame) where
   abbrev Rest : Body
   Rest = cursor_body p (frame b (n + 1) ∷ fs)
 
@@ -52,19 +52,19 @@ module _ (p : Checked) (checked : IsChecked p) (b n : ℕ) (fs : List Frame) whe
   pub when_step : (e : Expr) (on : ℕ) (store : Store) → slice_get (block_at p.blocks b) n ≡ Some (If e on None) → on < length p.blocks → list_step (cursor_body p (frame b n ∷ fs)) store ≡ quietly store (Some (chosen (value_of e store.words (pos 0)) (Inside on (n + 1)) Rest))
   when_step e on store item h =
       ap (λ k. list_step k store) (at_stmt (If e on None) item)
-      ∙ ap (λ x. quietly store (Some (chosen (value_of e store.words (pos 0)) (join x Rest) Rest))) (sym (frame_first p checked on h))
+      ∙ ap (λ x. quietly store (Some (chosen (value_of e store.words (pos 0)) (join x Rest) Rest))) (sym (frame_first law p checked on h))
 
   pub choice_step : (e : Expr) (on off : ℕ) (store : Store) → slice_get (block_at p.blocks b) n ≡ Some (If e on (Some off)) → on < length p.blocks → off < length p.blocks → list_step (cursor_body p (frame b n ∷ fs)) store ≡ quietly store (Some (chosen (value_of e store.words (pos 0)) (Inside on (n + 1)) (Inside off (n + 1))))
   choice_step e on off store item h k =
       ap (λ x. list_step x store) (at_stmt (If e on (Some off)) item)
-      ∙ ap (λ x. quietly store (Some (chosen (value_of e store.words (pos 0)) (join x Rest) (join (tree_of p.blocks off) Rest)))) (sym (frame_first p checked on h))
-      ∙ ap (λ x. quietly store (Some (chosen (value_of e store.words (pos 0)) (Inside on (n + 1)) (join x Rest)))) (sym (frame_first p checked off k))
+      ∙ ap (λ x. quietly store (Some (chosen (value_of e store.words (pos 0)) (join x Rest) (join (tree_of p.blocks off) Rest)))) (sym (frame_first law p checked on h))
+      ∙ ap (λ x. quietly store (Some (chosen (value_of e store.words (pos 0)) (Inside on (n + 1)) (join x Rest)))) (sym (frame_first law p checked off k))
 
   -- the frame of a while stays at it while its body is done
   pub while_step : (e : Expr) (body : ℕ) (store : Store) → slice_get (block_at p.blocks b) n ≡ Some (While e body) → body < length p.blocks → list_step (cursor_body p (frame b n ∷ fs)) store ≡ quietly store (Some (chosen (value_of e store.words (pos 0)) (Inside body n) Rest))
   while_step e body store item h =
       ap (λ x. list_step x store) (at_stmt (While e body) item)
-      ∙ ap (λ x. quietly store (Some (chosen (value_of e store.words (pos 0)) (join x (Loop b n e (tree_of p.blocks body) Rest)) Rest))) (sym (frame_first p checked body h))
+      ∙ ap (λ x. quietly store (Some (chosen (value_of e store.words (pos 0)) (join x (Loop b n e (tree_of p.blocks body) Rest)) Rest))) (sym (frame_first law p checked body h))
       ∙ ap (λ x. quietly store (Some (chosen (value_of e store.words (pos 0)) (join (frame_body p (frame body 0)) x) Rest))) (sym (at_stmt (While e body) item))
 
 -- a body has a depth, so no more than 31 frames stand below another

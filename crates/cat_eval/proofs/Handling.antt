@@ -10,9 +10,8 @@ use Rattle.cat_program.specs.Value.{value_of, is_nought}
 use Rattle.cat_program.specs.Body.{Body, Simple, SetWord, SetElement, Emit, Raise, Empty, Plain, When, Choice, Loop, Turns, with_stmt, with_stmts, tree_of, block_at}
 use Rattle.cat_program.specs.Meaning.{Store, Output, effect, output, Handled, and_then, unchanged, times, either, handled}
 use Rattle.cat_program.specs.OutsValue.{OutsValue, entry_of}
-use Rattle.cat_program.specs.Checked.{Checked, IsChecked, EventWorks, VersionWorks, EachVersionWorks, EachEventWorks, HasVersion, version_at, most_outs}
-use Rattle.cat_program.proofs.Trees.{tree_is}
-use Rattle.cat_program.proofs.FewOuts.{outs_most}
+use Rattle.cat_program.specs.Checked.{Checked, IsChecked, EventWorks, HasVersion, version_at, most_outs}
+use Rattle.cat_program.specs.PartLaws.{EachPart, BlocksAreTrees, OutputsAreFew}
 use Rattle.cat_eval.specs.StateValue.{StateValue}
 use Rattle.cat_eval.specs.Cursor.{Fits}
 use Rattle.cat_eval.specs.Steps.{store_of, with_store, acted, Gives, Handles, Ready}
@@ -182,9 +181,9 @@ pub record Running (p : Checked) (b : ℕ) (ss : List Stmt) (x : ℤ) (s0 s : St
   pub going : Going (handled (tree_of p.blocks b) x (store_of s0)) (handled (with_stmts (tree_of p.blocks) b n (drop n ss)) x) s0 s o0 o
   pub ready : Ready p (with_stmts (tree_of p.blocks) b n (drop n ss)) s o
 
-pub running_starts : (p : Checked) (b : ℕ) (ss : List Stmt) (x : ℤ) (s0 : StateValue) (o0 : OutsValue) → b < length p.blocks → ss ≡ block_at p.blocks b → Ready p (tree_of p.blocks b) s0 o0 → Running p b ss x s0 s0 o0 o0 0
-running_starts p b ss x s0 o0 h e r =
-    let same : tree_of p.blocks b ≡ with_stmts (tree_of p.blocks) b 0 ss = tree_is p.blocks b r.checked.lower h ∙ ap (with_stmts (tree_of p.blocks) b 0) (sym e) in
+pub running_starts : BlocksAreTrees → (p : Checked) (b : ℕ) (ss : List Stmt) (x : ℤ) (s0 : StateValue) (o0 : OutsValue) → b < length p.blocks → ss ≡ block_at p.blocks b → Ready p (tree_of p.blocks b) s0 o0 → Running p b ss x s0 s0 o0 o0 0
+running_starts law p b ss x s0 o0 h e r =
+    let same : tree_of p.blocks b ≡ with_stmts (tree_of p.blocks) b 0 ss = law.tree p.blocks b r.checked.lower h ∙ ap (with_stmts (tree_of p.blocks) b 0) (sym e) in
     record {
       going = subst (λ k. Going (handled (tree_of p.blocks b) x (store_of s0)) (handled k x) s0 s0 o0 o0) same (going_starts (handled (tree_of p.blocks b) x) s0 o0);
       ready = subst (λ k. Ready p k s0 o0) same r;
@@ -218,8 +217,8 @@ module _ (p : Checked) (b : ℕ) (ss : List Stmt) (x : ℤ) (s0 s : StateValue) 
     room = omega (arith, left_ready.room, stmt_outs F b n Later stmt);
   }
 
-  pub running_goes : (s' : StateValue) (o' : OutsValue) → Handles (with_stmt F 0 0 stmt Empty) x s o s' o' → Running p b ss x s0 s' o0 o' (n + 1)
-  running_goes s' o' v =
+  pub running_goes : OutputsAreFew → (s' : StateValue) (o' : OutsValue) → Handles (with_stmt F 0 0 stmt Empty) x s o s' o' → Running p b ss x s0 s' o0 o' (n + 1)
+  running_goes outs_most s' o' v =
       let one = with_stmt F 0 0 stmt Empty in
       let shape = ready_shape p s s' (handled one x (store_of s)) o o' v (handled_words one x (store_of s)) (handled_posts one x (store_of s)) in
       record {
@@ -275,8 +274,8 @@ module _ (p : Checked) (count : ℕ) (body : Body) (x : ℤ) (s0 s : StateValue)
   pub turning_ready : Ready p body s o
   turning_ready = record { checked = t.checked; words_are = t.words_are; posts_are = t.posts_are; held = t.held; works = t.works; room = omega (arith, more_room) }
 
-  pub turning_goes : (s' : StateValue) (o' : OutsValue) → Handles body x s o s' o' → Turning p count body x s0 s' o0 o' (n + 1)
-  turning_goes s' o' v =
+  pub turning_goes : OutputsAreFew → (s' : StateValue) (o' : OutsValue) → Handles body x s o s' o' → Turning p count body x s0 s' o0 o' (n + 1)
+  turning_goes outs_most s' o' v =
       let shape = ready_shape p s s' (handled body x (store_of s)) o o' v (handled_words body x (store_of s)) (handled_posts body x (store_of s)) in
       record {
         going = going_goes _ (handled body x (store_of s)) (times (count - n) (handled body x)) (times (count - (n + 1)) (handled body x)) s0 s s' o0 o o' t.going v (ap (λ k. times k (handled body x) (store_of s)) (less_left count n less));
@@ -295,25 +294,15 @@ turning_ends p count body x s0 s o0 o n le t =
 
 -- ---- a version's block
 
-pub version_works : (g : ℕ → Body) (w t : ℕ) (events : List (List ℕ)) (e v : ℕ) → EachEventWorks w t (map (λ event. map g event) events) → e < length events → v < length (unwrap_or (slice_get events e) []) → VersionWorks w t (g (slice_index (unwrap_or (slice_get events e) []) v))
-version_works g w t [] e v each h k = absurd (omega arith)
-version_works g w t (vs ∷ events) zero v each h k = by_version vs v each.0 k
-  where
-    by_version : (vs : List ℕ) (v : ℕ) → EachVersionWorks w t (map g vs) → v < length vs → VersionWorks w t (g (slice_index vs v))
-    by_version [] v each k = absurd (omega arith)
-    by_version (b ∷ vs) zero each k = each.0
-    by_version (b ∷ vs) (suc v) each k = by_version vs v each.1 (omega arith)
-version_works g w t (vs ∷ events) (suc e) v each h k = version_works g w t events e v each.1 (omega arith) k
-
-pub version_ready : (p : Checked) (s : StateValue) (o : OutsValue) (event version b : ℕ) → Fits p s → HasVersion p event version → b ≡ slice_index (unwrap_or (slice_get p.events event) []) version → most_outs (version_at p event version) ≤ o.spare → Ready p (tree_of p.blocks b) s o
-version_ready p s o event version b fits there e room =
+pub version_ready : (p : Checked) → EachPart p → (s : StateValue) (o : OutsValue) (event version b : ℕ) → Fits p s → HasVersion p event version → b ≡ slice_index (unwrap_or (slice_get p.events event) []) version → most_outs (version_at p event version) ≤ o.spare → Ready p (tree_of p.blocks b) s o
+version_ready p parts s o event version b fits there e room =
     subst (λ k. Ready p (tree_of p.blocks k) s o) (sym e)
     (record {
       checked = fits.checked;
       words_are = fits.words_are;
       posts_are = fits.posts_are;
       held = 0;
-      works = (version_works (tree_of p.blocks) (length p.words) (length p.tasks) p.events event version fits.checked.events_work there.0 there.1).works;
+      works = (parts.versions event version there).works.works;
       room = room;
     })
 

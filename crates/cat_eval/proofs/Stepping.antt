@@ -12,7 +12,7 @@ use Rattle.cat_program.specs.Body.{Body, Simple, SetWord, SetElement, Emit, Rais
 use Rattle.cat_program.specs.Places.{body_size}
 use Rattle.cat_program.specs.Meaning.{Store, TaskState, TaskStep, effect, output, answer_of, list_step}
 use Rattle.cat_program.specs.Checked.{Checked, IsChecked, TaskWorks, NamesLower, depth_of}
-use Rattle.cat_program.proofs.Trees.{lower_at, stmt_lower}
+use Rattle.cat_program.specs.PartLaws.{BlocksAreTrees}
 use Rattle.cat_eval.specs.declared.state.Frame.{Frame}
 use Rattle.cat_eval.specs.StateValue.{StateValue}
 use Rattle.cat_eval.specs.Cursor.{next_frame, first_frame, opened, frame_body, cursor_body, state_of, FrameFits, CursorFits, Fits, AtFrame}
@@ -74,9 +74,9 @@ module _ (p : Checked) (below b n : ℕ) (s : Stmt) (item : slice_get (block_at 
   }
 
   -- a frame at the beginning of a block that the statement names
-  inside_fits : (checked : IsChecked p) (a : ℕ) → a < length p.blocks → 1 + depth_of (tree_of p.blocks a) ≤ depth_of Here → body_size (tree_of p.blocks a) ≤ body_size Here → TaskWorks (length p.words) (length p.tasks) (tree_of p.blocks a) → FrameFits p (suc below) (frame a 0)
-  inside_fits checked a h deep small works =
-      let first = frame_first p checked a h in
+  inside_fits : BlocksAreTrees → (checked : IsChecked p) (a : ℕ) → a < length p.blocks → 1 + depth_of (tree_of p.blocks a) ≤ depth_of Here → body_size (tree_of p.blocks a) ≤ body_size Here → TaskWorks (length p.words) (length p.tasks) (tree_of p.blocks a) → FrameFits p (suc below) (frame a 0)
+  inside_fits law checked a h deep small works =
+      let first = frame_first law p checked a h in
       record {
         block = h;
         depth = omega (arith, fits.depth, ap depth_of (frame_next p b n s item), deep, ap depth_of first);
@@ -84,8 +84,8 @@ module _ (p : Checked) (below b n : ℕ) (s : Stmt) (item : slice_get (block_at 
         works = subst (TaskWorks (length p.words) (length p.tasks)) (sym first) works;
       }
 
-  lower_here : IsChecked p → NamesLower b s
-  lower_here checked = stmt_lower b (block_at p.blocks b) n s (lower_at p.blocks 0 b b (omega arith) checked.lower) item
+  lower_here : BlocksAreTrees → IsChecked p → NamesLower b s
+  lower_here law checked = law.lower p.blocks b n s checked.lower item
 
 -- what a step makes of a state
 module _ (p : Checked) where
@@ -116,7 +116,7 @@ effect_posts (SetElement base len index value) x store = refl
 effect_posts (Emit channel value) x store = refl
 effect_posts (Raise task) x store = length-set store.posts task _
 
-module _ (p : Checked) (old new : StateValue) (f : Frame) (at : AtFrame p old f) where
+module _ (law : BlocksAreTrees) (p : Checked) (old new : StateValue) (f : Frame) (at : AtFrame p old f) where
   abbrev Fs : List Frame
   Fs = old.frames
 
@@ -137,7 +137,7 @@ module _ (p : Checked) (old new : StateValue) (f : Frame) (at : AtFrame p old f)
   -- a choice: the frame goes on after it, and the chosen block's frame is put on
   module _ (test : Expr) (on : ℕ) where
     inside_bound : (off : Option ℕ) → slice_get (block_at p.blocks f.block) f.place ≡ Some (If test on off) → NamesLower f.block (If test on off)
-    inside_bound off item = lower_here p (length Fs) f.block f.place (If test on off) item at.cursor.0 at.checked
+    inside_bound off item = lower_here p (length Fs) f.block f.place (If test on off) item at.cursor.0 law at.checked
 
     pub branch_fits : (off taken : Option ℕ) → slice_get (block_at p.blocks f.block) f.place ≡ Some (If test on off) → taken ≡ chosen_block test old.words on off → CursorFits p (opened taken (next_frame f ∷ Fs))
     branch_fits off taken item is = subst (λ o. CursorFits p (opened o (next_frame f ∷ Fs))) (sym is) (by_test off item (is_nought (value_of test old.words (pos 0))))
@@ -151,22 +151,22 @@ module _ (p : Checked) (old new : StateValue) (f : Frame) (at : AtFrame p old f)
             let s = If test on None in
             let works = works_here p (length Fs) f.block f.place s e fits in
             let within : on < length p.blocks = omega (arith, inside_bound None e, fits.block) in
-            (inside_fits p (length Fs) f.block f.place s e fits at.checked on within (omega arith) (omega arith) works.1, (next_fits p (length Fs) f.block f.place s e fits, at.cursor.1))
+            (inside_fits p (length Fs) f.block f.place s e fits law at.checked on within (omega arith) (omega arith) works.1, (next_fits p (length Fs) f.block f.place s e fits, at.cursor.1))
         by_test (Some a) e true =
             let s = If test on (Some a) in
             let works = works_here p (length Fs) f.block f.place s e fits in
             let within : a < length p.blocks = omega (arith, (inside_bound (Some a) e).1, fits.block) in
-            (inside_fits p (length Fs) f.block f.place s e fits at.checked a within (omega arith) (omega arith) works.2, (next_fits p (length Fs) f.block f.place s e fits, at.cursor.1))
+            (inside_fits p (length Fs) f.block f.place s e fits law at.checked a within (omega arith) (omega arith) works.2, (next_fits p (length Fs) f.block f.place s e fits, at.cursor.1))
         by_test (Some a) e false =
             let s = If test on (Some a) in
             let works = works_here p (length Fs) f.block f.place s e fits in
             let within : on < length p.blocks = omega (arith, (inside_bound (Some a) e).0, fits.block) in
-            (inside_fits p (length Fs) f.block f.place s e fits at.checked on within (omega arith) (omega arith) works.1, (next_fits p (length Fs) f.block f.place s e fits, at.cursor.1))
+            (inside_fits p (length Fs) f.block f.place s e fits law at.checked on within (omega arith) (omega arith) works.1, (next_fits p (length Fs) f.block f.place s e fits, at.cursor.1))
 
     branch_body : (off : Option ℕ) → slice_get (block_at p.blocks f.block) f.place ≡ Some (If test on off) → list_step (cursor_body p (f ∷ Fs)) (store_of old) ≡ step_by p Quiet (store_of old) (cursor_body p (opened (chosen_block test old.words on off) (next_frame f ∷ Fs)))
     branch_body None item =
         let within : on < length p.blocks = omega (arith, inside_bound None item, at.cursor.0.block) in
-        when_step p at.checked f.block f.place Fs test on (store_of old) item within ∙ ap (step_by p Quiet (store_of old)) (by_test (is_nought (value_of test old.words (pos 0))))
+        when_step law p at.checked f.block f.place Fs test on (store_of old) item within ∙ ap (step_by p Quiet (store_of old)) (by_test (is_nought (value_of test old.words (pos 0))))
       where
         by_test : (t : Bool) → (if t then cursor_body p (next_frame f ∷ Fs) else cursor_body p (first_frame on ∷ next_frame f ∷ Fs)) ≡ cursor_body p (opened (if t then None else Some on) (next_frame f ∷ Fs))
         by_test true = refl
@@ -174,7 +174,7 @@ module _ (p : Checked) (old new : StateValue) (f : Frame) (at : AtFrame p old f)
     branch_body (Some a) item =
         let within : on < length p.blocks = omega (arith, (inside_bound (Some a) item).0, at.cursor.0.block) in
         let within' : a < length p.blocks = omega (arith, (inside_bound (Some a) item).1, at.cursor.0.block) in
-        choice_step p at.checked f.block f.place Fs test on a (store_of old) item within within' ∙ ap (step_by p Quiet (store_of old)) (by_test (is_nought (value_of test old.words (pos 0))))
+        choice_step law p at.checked f.block f.place Fs test on a (store_of old) item within within' ∙ ap (step_by p Quiet (store_of old)) (by_test (is_nought (value_of test old.words (pos 0))))
       where
         by_test : (t : Bool) → (if t then cursor_body p (first_frame a ∷ next_frame f ∷ Fs) else cursor_body p (first_frame on ∷ next_frame f ∷ Fs)) ≡ cursor_body p (opened (if t then Some a else Some on) (next_frame f ∷ Fs))
         by_test true = refl
@@ -192,7 +192,7 @@ module _ (p : Checked) (old new : StateValue) (f : Frame) (at : AtFrame p old f)
   -- a while: its frame stays at it while its body is done
   module _ (test : Expr) (body : ℕ) (item : slice_get (block_at p.blocks f.block) f.place ≡ Some (While test body)) where
     loop_within : body < length p.blocks
-    loop_within = omega (arith, lower_here p (length Fs) f.block f.place (While test body) item at.cursor.0 at.checked, at.cursor.0.block)
+    loop_within = omega (arith, lower_here p (length Fs) f.block f.place (While test body) item at.cursor.0 law at.checked, at.cursor.0.block)
 
     -- the frames after the test
     abbrev pub loop_frames : Option ℕ → List Frame
@@ -206,12 +206,12 @@ module _ (p : Checked) (old new : StateValue) (f : Frame) (at : AtFrame p old f)
         by_test true = (next_fits p (length Fs) f.block f.place (While test body) item at.cursor.0, at.cursor.1)
         by_test false =
             let works = works_here p (length Fs) f.block f.place (While test body) item at.cursor.0 in
-            (inside_fits p (length Fs) f.block f.place (While test body) item at.cursor.0 at.checked body loop_within (omega arith) (omega arith) works.1, at.cursor)
+            (inside_fits p (length Fs) f.block f.place (While test body) item at.cursor.0 law at.checked body loop_within (omega arith) (omega arith) works.1, at.cursor)
 
     pub loop_is : (taken : Option ℕ) → taken ≡ chosen_block test old.words body None → new ≡ record old { frames = loop_frames taken } → StepsAt p old f Quiet new
     loop_is taken is state =
         made p _ Quiet Quiet new (store_of old) (cursor_body p (loop_frames (chosen_block test old.words body None))) (loop_frames taken) at.checked
-        (while_step p at.checked f.block f.place Fs test body (store_of old) item loop_within ∙ ap (step_by p Quiet (store_of old)) (by_test (is_nought (value_of test old.words (pos 0)))))
+        (while_step law p at.checked f.block f.place Fs test body (store_of old) item loop_within ∙ ap (step_by p Quiet (store_of old)) (by_test (is_nought (value_of test old.words (pos 0)))))
         refl
         (state ∙ ap (λ r. let v : StateValue = record { words = old.words; posts = old.posts; running = r; frames = loop_frames taken } in v) at.running)
         (ap (λ o. cursor_body p (loop_frames o)) (sym is))

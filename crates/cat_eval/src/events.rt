@@ -9,7 +9,7 @@ ghost use Rattle.cat_eval.specs.Steps.{Handles, Ready};
 use crate::simple::{assign, assign_element, holds, post};
 use crate::state::State;
 use crate::value::value as value_in;
-use cat_program::{Expr, LogEntry, Outs, Program, Stmt};
+use cat_program::{Expr, LogEntry, Outs, Program, Stmt, blocks_law, outputs_law, parts_law};
 
 /// The whole body of a version of an event. The current list of the tasks stays.
 pub fn run_event(
@@ -26,6 +26,7 @@ pub fn run_event(
     ensures fits { Fits program.now state.new }
     ensures handles { Handles (version_at program.now event version) payload state.old outs.old state.new outs.new }
 {
+    parts_law();
     let block = program.version(event, version);
     run_block(program, state, block, payload, outs);
 }
@@ -37,6 +38,8 @@ fn run_block(program: &Program, state: &mut State, b: u32, payload: i32, outs: &
     requires block { b < length program.now.blocks }
     ensures { Handles (tree_of program.now.blocks b) payload state.old outs.old state.new outs.new }
 {
+    blocks_law();
+    outputs_law();
     let statements = program.block(b);
     for stmt in statements {
         run_stmt(program, state, b, stmt, payload, outs);
@@ -136,6 +139,7 @@ fn run_turns(
     requires block { body < length program.now.blocks }
     ensures { Handles (Turns 0 0 count (tree_of program.now.blocks body) Empty) payload state.old outs.old state.new outs.new }
 {
+    outputs_law();
     for turn in 0..count {
         run_block(program, state, body, payload, outs);
     }

@@ -12,7 +12,7 @@ use crate::settle::settle;
 use crate::simple::{assign, assign_element, chosen_block, post};
 use crate::state::{Frame, State};
 use crate::value::value as value_in;
-use cat_program::{Expr, Program, Stepped, Stmt};
+use cat_program::{Expr, Program, Stepped, Stmt, blocks_law, parts_law};
 
 /// One step of the tasks. The answer is none exactly where no step exists.
 pub fn task_step(program: &Program, state: &mut State) -> Stepped
@@ -38,6 +38,8 @@ fn begin(program: &Program, state: &mut State, t: usize) -> Stepped
     ensures fits { Fits program.now state.new }
     ensures step { StepsAs program.now state.old result state.new }
 {
+    blocks_law();
+    parts_law();
     let block = program.body(t as u8);
     state.lower(t);
     state.set_running(true);
@@ -121,6 +123,7 @@ fn branch(
     requires here { slice_get (block_at program.now.blocks frame.block) frame.place ≡ Some (stmt.If test.now first second) }
     ensures { StepsAt program.now state.old frame Quiet state.new }
 {
+    blocks_law();
     let chosen = chosen_block(test, state.words(), first, second);
     state.push_frame(frame.next());
     match chosen {
@@ -135,6 +138,7 @@ fn turn(program: &Program, state: &mut State, frame: Frame, test: &Expr, body: u
     requires here { slice_get (block_at program.now.blocks frame.block) frame.place ≡ Some (stmt.While test.now body) }
     ensures { StepsAt program.now state.old frame Quiet state.new }
 {
+    blocks_law();
     match chosen_block(test, state.words(), body, None) {
         None => state.push_frame(frame.next()),
         Some(block) => {

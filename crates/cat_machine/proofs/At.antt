@@ -3,12 +3,9 @@ use Rattle.std.proofs.Common.{◌≡◌, ℕ, ◌+◌, ◌<◌, List, [], ◌∷
 use Rattle.std.specs.Prelude.{slice_get}
 use Rattle.std.proofs.Math.Seq.{get_or-append_seam}
 use Rattle.std.proofs.lemmas.Option.{slice_get-get_or}
+use Rattle.cat_machine.specs.LaidOut.{HasAt}
 
 module _ {A : Type 0} where
-  abbrev pub HasAt : List A → ℕ → List A → Type 0
-  HasAt l at [] = Unit {0}
-  HasAt l at (x ∷ xs) = (slice_get l at ≡ Some x) × HasAt l (at + 1) xs
-
   pub has_front : (l : List A) (at : ℕ) (a b : List A) → HasAt l at (a ++ b) → HasAt l at a
   has_front l at [] b h = tt
   has_front l at (x ∷ a) b h = (h.0, has_front l (at + 1) a b h.1)

@@ -7,16 +7,14 @@ use Rattle.cat_program.specs.Places.{expr_size, operands_size, body_size, tasks_
 use Rattle.cat_program.specs.Checked.{most_steps}
 use Rattle.cat_machine.specs.declared.instr.Instr.{Instr}
 use Rattle.cat_machine.specs.declared.instr.Mode.{Mode}
-use Rattle.cat_machine.specs.Costs.{Costs, code_cost, simple_cost, test_cost, first_cost, section_most, tasks_most, handler_most}
+use Rattle.cat_machine.specs.Costs.{code_cost, simple_cost, test_cost, first_cost, section_most, tasks_most, handler_most}
 use Rattle.cat_machine.specs.CodeValue.{CodeValue}
 use Rattle.cat_machine.specs.Held.{Held}
 use Rattle.cat_machine.specs.Machine.{Stepping, step_of, goes_on, Ended', prepended, follow, after_step, until}
 use Rattle.cat_machine.specs.Code.{expr_code, operands_code}
+use Rattle.cat_machine.specs.LaidOut.{one_each}
 use Rattle.cat_machine.proofs.Expressions.{expr_length}
 use Rattle.cat_machine.proofs.Sizes.{operands_length}
-
-abbrev pub one_each : Costs
-one_each c = 1
 
 ones : (is : List Instr) → code_cost one_each is ≡ length is
 ones [] = refl

@@ -106,7 +106,7 @@ puts_by mode code h pc instr s next at step =
 
 -- ---- places
 
-marks_many : (bodies : List Body) → length (tasks_marks bodies) ≡ tasks_size bodies
+pub marks_many : (bodies : List Body) → length (tasks_marks bodies) ≡ tasks_size bodies
 marks_many [] = refl
 marks_many (body ∷ bodies) = omega (arith, length-append (task_marks body) (tasks_marks bodies), task_marks_length body, marks_many bodies)
 

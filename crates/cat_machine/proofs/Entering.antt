@@ -6,7 +6,7 @@ use Rattle.cat_program.specs.Meaning.{Store, handled, TaskState}
 use Rattle.cat_program.specs.Places.{body_size, tasks_size, task_size, version_size, versions_size}
 use Rattle.cat_program.specs.Checked.{Checked, IsChecked, bodies_of, versions_of, version_at, program_marks, simple_outs, most_outs, most_steps, VersionWorks, EachVersionWorks, EachEventWorks}
 use Rattle.cat_program.specs.OutsValue.{OutsValue}
-use Rattle.cat_program.proofs.FewOuts.{outs_most}
+use Rattle.cat_program.specs.PartLaws.{OutputsAreFew}
 use Rattle.cat_machine.specs.declared.instr.Instr.{Instr}
 use Rattle.cat_machine.specs.declared.instr.Instr.TheVariants as i
 use Rattle.cat_machine.specs.declared.instr.Mode.TheVariants.{Handler}
@@ -16,13 +16,14 @@ use Rattle.cat_machine.specs.Held.{Held}
 use Rattle.cat_machine.specs.Machine.{moved, entered, act, Ended', until}
 use Rattle.cat_machine.specs.Code.{body_code, task_code, tasks_code, versions_code, versions_entries, events_code, events_entries, code_of}
 use Rattle.cat_machine.specs.Fits.{HasShape, Corresponds, Stands, Idle, Within, Handling, Fits, HandlerIs, HandlerStopped, HandlerGives}
-use Rattle.cat_machine.proofs.At.{HasAt, has_front, has_rest, has_all}
+use Rattle.cat_machine.specs.LaidOut.{HasAt, one_each, VersionStands}
+use Rattle.cat_machine.proofs.At.{has_front, has_rest, has_all}
 use Rattle.cat_machine.proofs.Runs.{path_cost-length}
 use Rattle.cat_machine.proofs.Sizes.{body_length}
 use Rattle.cat_machine.proofs.Sections.{ends_after, one_ends, store_of}
 use Rattle.cat_machine.proofs.Tasks.{task_code_length}
 use Rattle.cat_machine.proofs.Handlers.{with_store, handler_passes}
-use Rattle.cat_machine.proofs.Bounds.{one_each, handler_ones, until_within}
+use Rattle.cat_machine.proofs.Bounds.{handler_ones, until_within}
 use Rattle.cat_machine.proofs.Fitting.{one_at, weighs_one, fits_idle}
 
 -- ---- where a version stands
@@ -94,10 +95,6 @@ index_of_item [] k x e = cc
 index_of_item (y ∷ xs) zero x e = cc
 index_of_item (y ∷ xs) (suc k) x e = index_of_item xs k x e
 
-pub record VersionStands (p : Checked) (e v entry : ℕ) : Type 0 where
-  pub code_at : HasAt (code_of p).instrs entry (body_code entry (version_at p e v) ++ i.End ∷ [])
-  pub works : VersionWorks (length p.words) (length p.tasks) (version_at p e v)
-
 pub version_stands : (p : Checked) → IsChecked p → (e v entry : ℕ) → EntryAt (code_of p) e v entry → VersionStands p e v entry
 version_stands p checked e v entry at = by_event (slice_get (code_of p).versions e) refl at
   where
@@ -123,9 +120,9 @@ store_by words posts = record { words = words; posts = posts }
 pub record HandlerRuns (p : Checked) (h : Held) (s : TaskState) (e v entry : ℕ) (payload : ℤ) : Type 0 where
   pub run : Ended'
   pub ends : until 1000000 Handler (code_of p) (entered h entry payload) ≡ Some run
-  pub few : length run.outs ≤ most_outs (version_at p e v)
   pub is : HandlerIs p s e v payload run.after run.outs
   pub shape : HasShape (length p.words) (length p.tasks) run.after
+  pub back : run.after.place ≡ h.place
 
 pub handler_runs : (p : Checked) → IsChecked p → (h : Held) (s : TaskState) (e v entry : ℕ) (payload : ℤ) → Corresponds (program_marks p) h s → HasShape (length p.words) (length p.tasks) h → EntryAt (code_of p) e v entry → HandlerRuns p h s e v entry payload
 unfolding act
@@ -149,7 +146,7 @@ handler_runs p checked h s e v entry payload c shape at =
       run = _;
       ends = until_within Handler code whole.turns (moved k entry h.stack) _ whole.is 1000000 long;
       shape = record { words_are = passes.shape.words_are; posts_are = passes.shape.posts_are };
-      few = omega (arith, ap length (append-nil d.outs), outs_most body payload (store_of h));
+      back = refl;
       is = record {
         outputs = append-nil d.outs ∙ ap (λ x. (handled body payload x).outs) same;
         state = record {
@@ -179,13 +176,13 @@ fits_entered p code h e v entry payload fits free empty at = record {
     by_stands (Handling kept w r) = let both = sym w ∙ free in cc
 
 -- what a handler needs, and what it gives
-pub handler_needs : (p : Checked) (code : CodeValue) (h k : Held) (e v entry spare : ℕ) (payload : ℤ) → Fits p code h → h.kept ≡ None → h.stack ≡ [] → EntryAt code e v entry → most_outs (version_at p e v) ≤ spare → k ≡ entered h entry payload → (r : Ended') × (until 1000000 Handler code k ≡ Some r) × (length r.outs ≤ spare)
-handler_needs p code h k e v entry spare payload fits free empty at le same =
+pub handler_needs : OutputsAreFew → (p : Checked) (code : CodeValue) (h k : Held) (e v entry spare : ℕ) (payload : ℤ) → Fits p code h → h.kept ≡ None → h.stack ≡ [] → EntryAt code e v entry → most_outs (version_at p e v) ≤ spare → k ≡ entered h entry payload → (r : Ended') × (until 1000000 Handler code k ≡ Some r) × (length r.outs ≤ spare)
+handler_needs few p code h k e v entry spare payload fits free empty at le same =
     let idle = fits_idle p code h fits free empty in
     let r = handler_runs p fits.checked h idle.state e v entry payload idle.corresponds fits.shape (subst (λ c. EntryAt c e v entry) fits.code_is at) in
-    (r.run, ap (λ x. until 1000000 Handler code x) same ∙ ap (λ c. until 1000000 Handler c (entered h entry payload)) fits.code_is ∙ r.ends, omega (arith, r.few))
+    (r.run, ap (λ x. until 1000000 Handler code x) same ∙ ap (λ c. until 1000000 Handler c (entered h entry payload)) fits.code_is ∙ r.ends, omega (arith, ap length r.is.outputs, few (version_at p e v) payload idle.state.store, le))
 
-pub handler_gives : (p : Checked) (code : CodeValue) (h k new : Held) (s : TaskState) (e v entry : ℕ) (payload : ℤ) (before now : OutsValue) → Fits p code h → Corresponds (program_marks p) h s → EntryAt code e v entry → k ≡ entered h entry payload → HandlerStopped code k before new now → HandlerGives p s e v payload new before now × Fits p code new
+pub handler_gives : (p : Checked) (code : CodeValue) (h k new : Held) (s : TaskState) (e v entry : ℕ) (payload : ℤ) (before now : OutsValue) → Fits p code h → Corresponds (program_marks p) h s → EntryAt code e v entry → k ≡ entered h entry payload → HandlerStopped code k before new now → HandlerGives p s e v payload new before now × Fits p code new × (new.place ≡ h.place)
 handler_gives p code h k new s e v entry payload before now fits same at k_is stopped =
     let r = handler_runs p fits.checked h s e v entry payload same fits.shape (subst (λ c. EntryAt c e v entry) fits.code_is at) in
     let both : Some r.run ≡ Some stopped.run =
@@ -196,4 +193,5 @@ handler_gives p code h k new s e v entry payload before now fits same at k_is st
     let is = subst (λ x. HandlerIs p s e v payload x stopped.run.outs) after_is (subst (λ o. HandlerIs p s e v payload r.run.after o) outs_is r.is) in (
       record { outs = stopped.run.outs; is = is; entries = stopped.entries; spare = stopped.spare },
       record { checked = fits.checked; code_is = fits.code_is; shape = subst (HasShape (length p.words) (length p.tasks)) after_is r.shape; stands = Idle (record { state = _; corresponds = is.state }) },
+      ap (λ (x : Held). x.place) (sym after_is) ∙ r.back,
     )

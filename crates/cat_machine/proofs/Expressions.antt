@@ -14,7 +14,8 @@ use Rattle.cat_machine.specs.Machine.{moved, went, if_so, is_array, act}
 use Rattle.cat_machine.specs.Code.{expr_code, chain_code}
 use Rattle.cat_machine.specs.ClassOf.{class_of}
 use Rattle.cat_machine.specs.Costs.{Costs, code_cost}
-use Rattle.cat_machine.proofs.At.{HasAt, has_front, has_rest}
+use Rattle.cat_machine.specs.LaidOut.{HasAt}
+use Rattle.cat_machine.proofs.At.{has_front, has_rest}
 use Rattle.cat_machine.proofs.Runs.{lt_true, le_true, code_cost-append, Weighs, Leads, leads_on, leads_as, leads_here, one_leads}
 
 mutual

@@ -6,6 +6,7 @@ use Rattle.std.proofs.lemmas.List.Quantifiers.{position-Some}
 use Rattle.cat_program.specs.Meaning.{Output, first_posted, TaskState, TaskStep, task_step_of}
 use Rattle.cat_program.specs.Body.{Body}
 use Rattle.cat_program.specs.Places.{rest_in}
+use Rattle.cat_program.specs.Resting.{StandsFor}
 use Rattle.cat_program.specs.declared.syntax.Stepped.TheVariants.{None as NoStep}
 use Rattle.cat_program.specs.Checked.{Checked, IsChecked, bodies_of, body_at, program_marks}
 use Rattle.cat_machine.specs.declared.instr.Instr.{Instr}
@@ -18,10 +19,11 @@ use Rattle.cat_machine.specs.CodeValue.{CodeValue}
 use Rattle.cat_machine.specs.Held.{Held}
 use Rattle.cat_machine.specs.Machine.{Stepping, moved, act, fetched, step_at, step_of, next_of, entry_of, place_or, goes_on, Ended', Stopped, prepended, follow, after_step, until}
 use Rattle.cat_machine.specs.Code.{code_of}
-use Rattle.cat_machine.specs.Fits.{HasShape, StandsFor, Corresponds, IsIdle, RunsOn, Stands, Idle, Within, Handling, Fits, ReadyFor, SectionIs, stepped_of}
+use Rattle.cat_machine.specs.Fits.{HasShape, Corresponds, IsIdle, RunsOn, Stands, Idle, Within, Handling, Fits, ReadyFor, AnswerMeans, SectionIs, stepped_of}
+use Rattle.cat_machine.specs.LaidOut.{one_each}
 use Rattle.cat_machine.proofs.Runs.{until_suc, path_cost-length, Weighs}
-use Rattle.cat_machine.proofs.Bounds.{one_each, tasks_le, until_within, until_more}
-use Rattle.cat_machine.proofs.Keeps.{KeptIf, WentOn, Keeps, AllSome, act_keeps}
+use Rattle.cat_machine.proofs.Bounds.{tasks_le, until_within, until_more}
+use Rattle.cat_machine.proofs.Keeps.{KeptIf, WentOn, Lands, Keeps, AllSome, act_keeps}
 use Rattle.cat_machine.proofs.Tasks.{SectionMeets, section_law, jump_rest, entry_begins}
 
 abbrev pub one_at : ℕ → ℕ
@@ -145,12 +147,9 @@ idle_jumps p checked h pc to idle next at shape = by_place h.place idle.state.cu
     by_place None (Some k) e stands = absurd stands
     by_place (Some pc') None e stands = absurd stands
 
--- what fits and is ready has a step
-pub fits_step : (p : Checked) (mode : Mode) (code : CodeValue) (h : Held) → Fits p code h → ReadyFor mode code h → (s : Stepping) × (step_of mode code h ≡ Some s)
-fits_step p mode code h fits ready =
-    let there = runs mode fits.stands (subst (λ c. ReadyFor mode c h) fits.code_is ready) in
-    let found = runs_step p mode h there in
-    (found.0, ap (λ c. step_of mode c h) fits.code_is ∙ found.1)
+-- what fits and is ready runs on
+ready_runs : (p : Checked) (mode : Mode) (code : CodeValue) (h : Held) → Fits p code h → ReadyFor mode code h → RunsOn p mode h
+ready_runs p mode code h fits ready = runs mode fits.stands (subst (λ c. ReadyFor mode c h) fits.code_is ready)
   where
     runs : (mode : Mode) → Stands p h → ReadyFor mode (code_of p) h → RunsOn p mode h
     runs Task (Idle idle) ready = idle_runs p fits.checked h ready.1.0 idle fits.shape ready.1.1
@@ -159,6 +158,36 @@ fits_step p mode code h fits ready =
     runs Handler (Idle idle) ready = let both = sym ready.1 ∙ idle.corresponds.free in cc
     runs Handler (Within free some r) ready = let both = sym ready.1 ∙ free in cc
     runs Handler (Handling kept e r) ready = r
+
+-- what fits and is ready has a step
+pub fits_step : (p : Checked) (mode : Mode) (code : CodeValue) (h : Held) → Fits p code h → ReadyFor mode code h → (s : Stepping) × (step_of mode code h ≡ Some s)
+fits_step p mode code h fits ready =
+    let found = runs_step p mode h (ready_runs p mode code h fits ready) in
+    (found.0, ap (λ c. step_of mode c h) fits.code_is ∙ found.1)
+
+-- what its answer means
+pub answer_means : (p : Checked) (mode : Mode) (code : CodeValue) (h : Held) (s : Stepping) → Fits p code h → ReadyFor mode code h → step_of mode code h ≡ Some s → AnswerMeans mode p h s.did s.after
+answer_means p mode code h s fits ready step =
+    by_answer mode s.did s.after ready keeps.kept keeps.lands (runs_later p mode h s (ready_runs p mode code h fits ready) step')
+  where
+    step' : step_of mode (code_of p) h ≡ Some s
+    step' = ap (λ c. step_of mode c h) (sym fits.code_is) ∙ step
+
+    found : Fetched mode (code_of p) h s
+    found = fetched_of mode (code_of p) h s step'
+
+    keeps : Keeps mode found.instr h s
+    keeps = step_keeps mode (code_of p) h s found
+
+    by_answer : (mode : Mode) (d : Did) (after : Held) → ReadyFor mode code h → KeptIf d h after → Lands mode d after → Later p mode (record { did = d; after = after }) (goes_on mode d) → AnswerMeans mode p h d after
+    by_answer Task Went after ready kept lands later = (kept ∙ ready.0, lands)
+    by_answer Task Acted after ready kept lands later = later
+    by_answer Task (Emitted c v) after ready kept lands later = later
+    by_answer Task Ended after ready kept lands later = lands
+    by_answer Handler Went after ready kept lands later = (kept, lands)
+    by_answer Handler (Emitted c v) after ready kept lands later = (kept, lands)
+    by_answer Handler Ended after ready kept lands later = (later, kept)
+    by_answer Handler Acted after ready kept lands later = lands
 
 -- after a step it fits again
 pub fits_after : (p : Checked) (mode : Mode) (code : CodeValue) (h : Held) (s : Stepping) → Fits p code h → ReadyFor mode code h → step_of mode code h ≡ Some s → Fits p code s.after

@@ -22,7 +22,8 @@ use Rattle.cat_machine.specs.CodeValue.{CodeValue}
 use Rattle.cat_machine.specs.Held.{Held}
 use Rattle.cat_machine.specs.Machine.{moved, stored, if_so, went, act, fetched, after_step, until}
 use Rattle.cat_machine.specs.Code.{expr_code, operands_code, simple_instr, body_code}
-use Rattle.cat_machine.proofs.At.{HasAt, has_front, has_rest}
+use Rattle.cat_machine.specs.LaidOut.{HasAt}
+use Rattle.cat_machine.proofs.At.{has_front, has_rest}
 use Rattle.cat_machine.proofs.Runs.{lt_true, until_suc, code_cost-append, Weighs, Leads, leads_on, leads_as, leads_here, one_leads}
 use Rattle.cat_machine.proofs.Expressions.{expr_length, array_true, expr_leads}
 use Rattle.cat_machine.proofs.Sizes.{operands_length, body_length}

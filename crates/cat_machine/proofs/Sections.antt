@@ -23,7 +23,8 @@ use Rattle.cat_machine.specs.Held.{Held}
 use Rattle.cat_machine.specs.Machine.{moved, stored, if_so, acted, ended, act, fetched, follow, step_of, goes_on, prepended, after_step, until}
 use Rattle.cat_machine.specs.Code.{expr_code, operands_code, simple_instr, body_code}
 use Rattle.cat_machine.specs.Fits.{HasShape, Corresponds, stepped_of}
-use Rattle.cat_machine.proofs.At.{HasAt, has_front, has_rest}
+use Rattle.cat_machine.specs.LaidOut.{HasAt}
+use Rattle.cat_machine.proofs.At.{has_front, has_rest}
 use Rattle.cat_machine.proofs.Runs.{lt_true, until_suc, path_cost-append, code_cost-append, Weighs, Leads, leads_on, leads_as, leads_here, one_leads}
 use Rattle.cat_machine.specs.Costs.{path_cost}
 use Rattle.cat_machine.proofs.Expressions.{expr_length, array_true, expr_leads}

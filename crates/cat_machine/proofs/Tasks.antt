@@ -18,8 +18,10 @@ use Rattle.cat_machine.specs.CodeValue.{CodeValue}
 use Rattle.cat_machine.specs.Held.{Held}
 use Rattle.cat_machine.specs.Machine.{moved, stored, acted, if_so, act, fetched, step_at, step_of, next_of, place_or, entry_of, after_step, until}
 use Rattle.cat_machine.specs.Code.{body_code, task_code, tasks_code, tasks_entries, events_code, code_of}
-use Rattle.cat_machine.specs.Fits.{HasShape, StandsFor, Corresponds}
-use Rattle.cat_machine.proofs.At.{HasAt, has_front, has_rest, has_all}
+use Rattle.cat_program.specs.Resting.{StandsFor}
+use Rattle.cat_machine.specs.Fits.{HasShape, Corresponds}
+use Rattle.cat_machine.specs.LaidOut.{HasAt}
+use Rattle.cat_machine.proofs.At.{has_front, has_rest, has_all}
 use Rattle.cat_machine.proofs.Runs.{lt_true, until_suc, Weighs}
 use Rattle.cat_machine.proofs.Sizes.{body_length, marks_length}
 use Rattle.cat_machine.proofs.Sections.{store_of, Answers, Meets, JumpKeeps, EachMeets, Met, each_append, each_more, end_meets, list_met}

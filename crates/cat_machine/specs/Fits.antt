@@ -2,9 +2,9 @@
 use Rattle.std.specs.Prelude.{◌≡◌, ℕ, ◌<◌, ℤ, List, [], length, Option, Some, None, MatchOption, ◌+◌, ◌++◌, map}
 use Rattle.cat_program.specs.declared.syntax.Stepped.{Stepped}
 use Rattle.cat_program.specs.declared.syntax.Stepped.TheVariants.{None as NoStep, Quiet, Out}
-use Rattle.cat_program.specs.Body.{Body}
 use Rattle.cat_program.specs.OutsValue.{OutsValue, entry_of}
-use Rattle.cat_program.specs.Places.{Marks, rest_in}
+use Rattle.cat_program.specs.Places.{Marks}
+use Rattle.cat_program.specs.Resting.{StandsFor}
 use Rattle.cat_program.specs.Meaning.{TaskState, Output, task_step_of, handled}
 use Rattle.cat_machine.specs.declared.instr.Did.{Did}
 use Rattle.cat_machine.specs.declared.instr.Did.TheVariants.{Went, Acted, Ended, Emitted}
@@ -20,13 +20,6 @@ use Rattle.cat_machine.specs.Held.{Held}
 pub record HasShape (words posts : ℕ) (h : Held) : Type 0 where
   pub words_are : length h.words ≡ words
   pub posts_are : length h.posts ≡ posts
-
--- a place stands for a current list, or there is neither
-abbrev pub StandsFor : Marks → Option ℕ → Option Body → Type 0
-StandsFor marks None None = Unit {0}
-StandsFor marks (Some pc) (Some k) = rest_in marks pc ≡ Some k
-StandsFor marks None (Some k) = ⊥
-StandsFor marks (Some pc) None = ⊥
 
 -- a working state between two sections, with no handler that runs, corresponds to a state of the tasks
 pub record Corresponds (marks : Marks) (h : Held) (s : TaskState) : Type 0 where
@@ -70,6 +63,22 @@ pub record Fits (p : Checked) (code : CodeValue) (h : Held) : Type 0 where
 abbrev pub ReadyFor : Mode → CodeValue → Held → Type 0
 ReadyFor Task code h = (h.kept ≡ None) × ((pc : ℕ) × (next_of code h ≡ Some pc))
 ReadyFor Handler code h = (kept : Option ℕ) × (h.kept ≡ Some kept)
+
+-- at a place
+abbrev pub HasPlace : Held → Type 0
+HasPlace h = (pc : ℕ) × (h.place ≡ Some pc)
+
+-- What the answer to one instruction says of the state after it: a section goes on with no handler, or has ended; a
+-- handler goes on and keeps the task's place, or has ended at that place.
+abbrev pub AnswerMeans : Mode → Checked → Held → Did → Held → Type 0
+AnswerMeans Task p old Went new = (new.kept ≡ None) × HasPlace new
+AnswerMeans Task p old Acted new = IsIdle p new
+AnswerMeans Task p old (Emitted channel value) new = IsIdle p new
+AnswerMeans Task p old Ended new = ⊥
+AnswerMeans Handler p old Went new = (new.kept ≡ old.kept) × HasPlace new
+AnswerMeans Handler p old (Emitted channel value) new = (new.kept ≡ old.kept) × HasPlace new
+AnswerMeans Handler p old Ended new = IsIdle p new × (old.kept ≡ Some new.place)
+AnswerMeans Handler p old Acted new = ⊥
 
 -- a state at which a section begins, with this place
 pub record IsBefore (from : Option ℕ) (h : Held) : Type 0 where

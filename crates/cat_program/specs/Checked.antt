@@ -1,5 +1,6 @@
 -- The checked program.
-use Rattle.std.specs.Prelude.{◌≡◌, ℕ, ◌+◌, ◌*◌, ◌<◌, ◌≤◌, max, ℤ, List, [], ◌∷◌, length, map, Option, Some, None, slice_get, slice_index, unwrap_or}
+use Rattle.std.specs.Prelude.{◌≡◌, ℕ, ◌+◌, ◌*◌, ◌<◌, ◌≤◌, max, ℤ, List, [], ◌∷◌, ◌++◌, length, map, Option, Some, None, slice_get, slice_index, unwrap_or, bytes_eq}
+use Rattle.std.specs.List.{IsDistinct}
 use Rattle.cat_program.specs.declared.syntax.Expr.{Expr, Number, Payload, Word, Element', Signed', Chain', Row_of-Further, end_of-Further, more_of-Further}
 use Rattle.cat_program.specs.declared.headers.Variable.{Variable}
 use Rattle.cat_program.specs.declared.headers.Event.{Event}
@@ -25,6 +26,10 @@ pub record Checked : Type 0 where
 
 abbrev pub checked_of : List Variable → List ℤ → List (List ℕ) → List ℕ → List ℕ → List Event → List (List ℕ) → List ℕ → List (List Stmt) → Checked
 checked_of variables words names started tasks headers events mentions blocks = record { variables = variables; words = words; names = names; started = started; tasks = tasks; headers = headers; events = events; mentions = mentions; blocks = blocks }
+
+-- the names of all variables, tasks and events
+abbrev pub all_names : Checked → List (List ℕ)
+all_names p = map (λ (v : Variable). v.name) p.variables ++ p.names ++ map (λ (e : Event). e.name) p.headers
 
 -- an event and a version of it
 abbrev pub HasVersion : Checked → ℕ → ℕ → Type 0
@@ -186,6 +191,10 @@ abbrev pub EachShallow : List Body → Type 0
 EachShallow [] = Unit {0}
 EachShallow (body ∷ bodies) = (depth_of body ≤ 32) × EachShallow bodies
 
+abbrev pub EachEventShallow : List (List Body) → Type 0
+EachEventShallow [] = Unit {0}
+EachEventShallow (event ∷ events) = EachShallow event × EachEventShallow events
+
 -- each body of a list
 abbrev pub EachTaskWorks : ℕ → ℕ → List Body → Type 0
 EachTaskWorks words posts [] = Unit {0}
@@ -222,6 +231,7 @@ pub record IsChecked (p : Checked) : Type 0 where
   pub laid_out : IsLaidOut 0 p.variables (length p.words)
   pub few_words : length p.words ≤ 1024
   pub named : length p.names ≡ length p.tasks
+  pub names_differ : IsDistinct bytes_eq (all_names p)
   pub declares : EachEventIs p.headers p.events
   pub mentions_in : EachBelow (length p.events) p.mentions
   pub degrades : EachDegrades p.mentions 0 p.events
@@ -231,6 +241,7 @@ pub record IsChecked (p : Checked) : Type 0 where
   pub few_events : length p.events ≤ 16
   pub lower : EachLower 0 p.blocks
   pub tasks_shallow : EachShallow (bodies_of p)
+  pub events_shallow : EachEventShallow (versions_of p)
   pub tasks_work : EachTaskWorks (length p.words) (length p.tasks) (bodies_of p)
   pub events_work : EachEventWorks (length p.words) (length p.tasks) (versions_of p)
   pub started : length p.started ≡ length p.tasks

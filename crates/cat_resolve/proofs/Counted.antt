@@ -6,7 +6,7 @@ use Rattle.cn_base.specs.declared.tree.Item.{Item}
 use Rattle.cn_base.specs.declared.tree.Item.TheVariants as item
 use Rattle.cn_base.specs.declared.tree.Tree.{Tree}
 use Rattle.cat_program.specs.Checked.{Checked}
-use Rattle.cat_conditions.specs.Conditions.{IsChecked}
+use Rattle.cat_conditions.specs.Conditions.{MeetsConditions}
 use Rattle.cat_resolve.specs.declared.names.Meaning.{Meaning}
 use Rattle.cat_resolve.specs.declared.names.Meaning.TheVariants as meaning
 use Rattle.cat_resolve.specs.Names.{Meanings, names_of, words_of, tasks_of, events_of}
@@ -92,7 +92,7 @@ pub record HasCounts (p : Checked) : Type 0 where
   pub few_tasks : length p.tasks ≤ 16
   pub few_events : length p.events ≤ 16
 
-pub has_counts : (tree : Tree) (p : Checked) → IsChecked tree → IsProgramOf tree p → HasCounts p
+pub has_counts : (tree : Tree) (p : Checked) → MeetsConditions tree → IsProgramOf tree p → HasCounts p
 has_counts tree p checked of =
     let small = is_small tree checked in
     let w : length p.words ≡ word_count tree.items = ap length of.words ∙ words_length tree.items in

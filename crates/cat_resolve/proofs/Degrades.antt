@@ -12,7 +12,7 @@ use Rattle.cat_program.specs.Declares.{EachDegrades}
 use Rattle.cat_conditions.specs.Pieces.{Piece, pieces}
 use Rattle.cat_conditions.specs.Names.{Name}
 use Rattle.cat_conditions.specs.Counts.{versions_of, mentioned}
-use Rattle.cat_conditions.specs.Conditions.{IsChecked}
+use Rattle.cat_conditions.specs.Conditions.{MeetsConditions}
 use Rattle.cat_resolve.specs.declared.names.Meaning.{Meaning}
 use Rattle.cat_resolve.specs.declared.names.Meaning.TheVariants as meaning
 use Rattle.cat_resolve.specs.Names.{Meanings, first_of, words_of, tasks_of, events_of, declared_by, names_from, names_of}
@@ -135,7 +135,7 @@ all_degrade names mentions ps w t e n (i ∷ items) rare later found differ some
     (λ x k is. found x k (passed x k i items differ is)) differ.1 both.1 in
     item_degrades names mentions ps w t e n i items (versions_from names m items) rare later found both.0 rest
 
-pub degrades : (tree : Tree) (p : Checked) → IsChecked tree → IsProgramOf tree p → EachDegrades p.mentions 0 p.events
+pub degrades : (tree : Tree) (p : Checked) → MeetsConditions tree → IsProgramOf tree p → EachDegrades p.mentions 0 p.events
 degrades tree p checked of =
     let items = tree.items in
     let names = names_of items in

@@ -97,7 +97,7 @@ versions_alone (an_expression event t) h = refl
 abbrev pub versions_among : List Item → Name → Option ℕ
 versions_among items x = lookup (λ y. bytes_eq x y) (filter_map versions_count (items_pieces items))
 
-not_first : (b : Bool) (s : Sort) (o : Option Sort) → cond b (Some s) o ≡ None → (b ≡ false) × (o ≡ None)
+pub not_first : (b : Bool) (s : Sort) (o : Option Sort) → cond b (Some s) o ≡ None → (b ≡ false) × (o ≡ None)
 not_first true s o h = absurd cc
 not_first false s o h = (refl, h)
 

@@ -3,7 +3,7 @@ use Rattle.std.proofs.Common.{◌≡◌, ◌≤◌, length, ap, sym, ◌∙◌, 
 use Rattle.cn_base.specs.declared.tree.Tree.{Tree}
 use Rattle.cat_program.specs.Checked.{Checked, EachBelow, EachListBelow, EachLower}
 use Rattle.cat_program.specs.Declares.{IsLaidOut, EachEventIs, EachDegrades}
-use Rattle.cat_conditions.specs.Conditions.{IsChecked}
+use Rattle.cat_conditions.specs.Conditions.{MeetsConditions}
 use Rattle.cat_resolve.specs.Names.{names_of}
 use Rattle.cat_resolve.specs.Header.{event_count}
 use Rattle.cat_resolve.specs.Content.{mentions_in}
@@ -28,14 +28,14 @@ pub record HeaderWorks (p : Checked) : Type 0 where
   pub lower : EachLower 0 p.blocks
   pub started : length p.started ≡ length p.tasks
 
-mentions_within : (tree : Tree) (p : Checked) → IsChecked tree → IsProgramOf tree p → EachBelow (length p.events) p.mentions
+mentions_within : (tree : Tree) (p : Checked) → MeetsConditions tree → IsProgramOf tree p → EachBelow (length p.events) p.mentions
 mentions_within tree p checked of =
     let names = names_of tree.items in
     let count : length p.events ≡ event_count tree.items = ap length of.events ∙ versions_length names 0 tree.items in
     let below : EachBelow (event_count tree.items) (mentions_in names tree.items) = mentions_below names (event_count tree.items) tree.items (mention_events tree checked) in
     subst (EachBelow (length p.events)) (sym of.mentions) (subst (λ n. EachBelow n (mentions_in names tree.items)) (sym count) below)
 
-pub header_works : (tree : Tree) (p : Checked) → IsChecked tree → IsProgramOf tree p → HeaderWorks p
+pub header_works : (tree : Tree) (p : Checked) → MeetsConditions tree → IsProgramOf tree p → HeaderWorks p
 header_works tree p checked of =
     let counts = has_counts tree p checked of in
     record {

@@ -7,7 +7,7 @@ use Rattle.cat_conditions.specs.declared.sort.Sort.TheVariants as sort
 use Rattle.cat_conditions.specs.Pieces.{pieces}
 use Rattle.cat_conditions.specs.Names.{declarations, sort_of}
 use Rattle.cat_conditions.specs.Types.{is_plain, is_array, is_task}
-use Rattle.cat_conditions.specs.Conditions.{IsChecked}
+use Rattle.cat_conditions.specs.Conditions.{MeetsConditions}
 use Rattle.cat_resolve.specs.declared.names.Meaning.{Meaning}
 use Rattle.cat_resolve.specs.Names.{names_of}
 use Rattle.cat_resolve.specs.Header.{word_count, task_count}
@@ -45,7 +45,7 @@ a_task words tasks events (Some sort.Array) m e h = absurd (false≢true e)
 a_task words tasks events (Some sort.Task) m e h = let t : task_of m ≡ h.0 = ap task_of h.1 in omega (arith, t, h.2)
 a_task words tasks events (Some sort.Event) m e h = absurd (false≢true e)
 
-pub names_known : (tree : Tree) → IsChecked tree → Knows (sort_of (declarations (pieces tree))) (names_of tree.items) (word_count tree.items) (task_count tree.items)
+pub names_known : (tree : Tree) → MeetsConditions tree → Knows (sort_of (declarations (pieces tree))) (names_of tree.items) (word_count tree.items) (task_count tree.items)
 names_known tree checked =
     let sorts = sort_of (declarations (pieces tree)) in
     let names = names_of tree.items in

@@ -16,7 +16,7 @@ use Rattle.cat_program.specs.Declares.{IsLaidOut, EventIs, EachEventIs, spacing_
 use Rattle.cat_conditions.specs.Plain.{block_of}
 use Rattle.cat_conditions.specs.Pieces.{an_item}
 use Rattle.cat_conditions.specs.Local.{is_within, has_timing_in_range, least_gap, is_out_of_range, is_late}
-use Rattle.cat_conditions.specs.Conditions.{IsChecked}
+use Rattle.cat_conditions.specs.Conditions.{MeetsConditions}
 use Rattle.cat_resolve.specs.Names.{Meanings, names_of, words_of}
 use Rattle.cat_resolve.specs.Header.{item_variables, variables_in, event, timing_of, item_events, events_in, word_count, HasFewVersions, AllHaveFewVersions}
 use Rattle.cat_resolve.specs.Blocks.{block_blocks}
@@ -43,7 +43,7 @@ all_laid at end [] range e = omega (arith, e)
 all_laid at end (i ∷ items) range e =
     item_laid at end i (variables_in (at + words_of i) items) range.0 (all_laid (at + words_of i) end items range.1 (omega (arith, e)))
 
-pub laid_out : (tree : Tree) (p : Checked) → IsChecked tree → IsProgramOf tree p → IsLaidOut 0 p.variables (length p.words)
+pub laid_out : (tree : Tree) (p : Checked) → MeetsConditions tree → IsProgramOf tree p → IsLaidOut 0 p.variables (length p.words)
 laid_out tree p checked of =
     let range = each_fails is_out_of_range tree.items checked.0 in
     let words : length p.words ≡ word_count tree.items = ap length of.words ∙ words_length tree.items in
@@ -110,7 +110,7 @@ all_declare names n (i ∷ items) range early few some =
     item_declares names n i (events_in items) (versions_from names m items) range.0 early.0 few.0 both.0
     (all_declare names m items range.1 early.1 few.1 both.1)
 
-pub declares : (tree : Tree) (p : Checked) → IsChecked tree → IsProgramOf tree p → EachEventIs p.headers p.events
+pub declares : (tree : Tree) (p : Checked) → MeetsConditions tree → IsProgramOf tree p → EachEventIs p.headers p.events
 declares tree p checked of =
     let range = each_fails is_out_of_range tree.items checked.0 in
     let early = each_fails is_late tree.items checked.1.1.1.1.1.1.1.1.1.1.1.0 in

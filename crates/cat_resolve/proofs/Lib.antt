@@ -27,3 +27,4 @@ pub mod StandingCounts
 pub mod BodiesWork
 pub mod KnownNames
 pub mod Working
+pub mod NamesDiffer

@@ -16,7 +16,7 @@ use Rattle.cat_conditions.specs.Offences.{At, NoneOf}
 use Rattle.cat_conditions.specs.Names.{Name, Sorts, declarations, sort_of}
 use Rattle.cat_conditions.specs.Types.{is_event, has_wrong_type}
 use Rattle.cat_conditions.specs.Counts.{versions_of, mentioned}
-use Rattle.cat_conditions.specs.Conditions.{DegradesTooOften, IsChecked}
+use Rattle.cat_conditions.specs.Conditions.{DegradesTooOften, MeetsConditions}
 use Rattle.cat_resolve.specs.declared.names.Meaning.{Meaning}
 use Rattle.cat_resolve.specs.declared.names.Meaning.TheVariants as meaning
 use Rattle.cat_resolve.specs.Names.{Meanings, names_of}
@@ -75,7 +75,7 @@ all_mention_events words tasks events sorts names agree [] right = tt
 all_mention_events words tasks events sorts names agree (i ∷ items) right =
     (item_mentions_events words tasks events sorts names agree i right.0, all_mention_events words tasks events sorts names agree items right.1)
 
-pub mention_events : (tree : Tree) → IsChecked tree → AllMentionEvents (names_of tree.items) (event_count tree.items) tree.items
+pub mention_events : (tree : Tree) → MeetsConditions tree → AllMentionEvents (names_of tree.items) (event_count tree.items) tree.items
 mention_events tree checked =
     let items = tree.items in
     let sorts = sort_of (declarations (items_pieces items)) in

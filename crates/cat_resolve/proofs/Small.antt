@@ -13,7 +13,7 @@ use Rattle.cat_conditions.specs.Pieces.{Piece, an_item, a_statement, an_expressi
 use Rattle.cat_conditions.specs.Offences.{Exceeds, NoneOf}
 use Rattle.cat_conditions.specs.Local.{has_many_versions}
 use Rattle.cat_conditions.specs.Counts.{words, one_event, one_task, task_size, event_size, action_size, block_size, else_size, versions_size}
-use Rattle.cat_conditions.specs.Conditions.{MakesCodeLong, IsChecked}
+use Rattle.cat_conditions.specs.Conditions.{MakesCodeLong, MeetsConditions}
 use Rattle.cat_resolve.specs.Names.{Meanings, names_of, words_of, tasks_of, events_of}
 use Rattle.cat_resolve.specs.Header.{word_count, task_count, event_count, HasFewVersions, AllHaveFewVersions, IsSmall}
 use Rattle.cat_resolve.specs.Form.{Command}
@@ -223,7 +223,7 @@ short (p ∷ ps) h =
     let no_more : ¬ (60000 < sum_by task_size all + sum_by event_size all) = λ long. no (tasks, long) in
     omega (arith, no_more)
 
-pub few_blocks : (tree : Tree) → IsChecked tree → length (blocks_from (names_of tree.items) 0 tree.items) < 2 ^ 32
+pub few_blocks : (tree : Tree) → MeetsConditions tree → length (blocks_from (names_of tree.items) 0 tree.items) < 2 ^ 32
 few_blocks tree checked =
     let a = blocks_few (names_of tree.items) 0 tree.items in
     let b = short (pieces tree) checked.1.1.1.1.1.1.1.1.1.1.1.1.1.1.1.0 in
@@ -244,7 +244,7 @@ few_in_all : (items : List Item) → EachFails has_many_versions items → AllHa
 few_in_all [] h = tt
 few_in_all (i ∷ items) h = (few_in i h.0, few_in_all items h.1)
 
-pub is_small : (tree : Tree) → IsChecked tree → IsSmall tree.items
+pub is_small : (tree : Tree) → MeetsConditions tree → IsSmall tree.items
 is_small tree checked =
     let ps = pieces tree in
     let a : word_count tree.items ≡ sum_by words ps = words_counted tree.items in

@@ -12,7 +12,7 @@ use Rattle.cat_conditions.specs.declared.sort.Sort.TheVariants as sort
 use Rattle.cat_conditions.specs.Pieces.{an_item, a_statement, an_expression, items_pieces, pieces}
 use Rattle.cat_conditions.specs.Local.{is_within, is_out_of_range}
 use Rattle.cat_conditions.specs.Names.{Name, Declared, item_declaration, declaration, declarations, sort_of}
-use Rattle.cat_conditions.specs.Conditions.{IsChecked}
+use Rattle.cat_conditions.specs.Conditions.{MeetsConditions}
 use Rattle.cat_resolve.specs.declared.names.Meaning.{Meaning}
 use Rattle.cat_resolve.specs.declared.names.Meaning.TheVariants as meaning
 use Rattle.cat_resolve.specs.Names.{first_of, of_name, words_of, tasks_of, events_of, declared_by, names_from, names_of}
@@ -105,7 +105,7 @@ stands words tasks events w t e x (i ∷ items) range a b c =
     (omega (arith, a)) (omega (arith, b)) (omega (arith, c)) rest)
 
 -- each name of a source that meets the conditions
-pub names_stand : (tree : Tree) → IsChecked tree → (x : Name)
+pub names_stand : (tree : Tree) → MeetsConditions tree → (x : Name)
     → StandsFor (word_count tree.items) (task_count tree.items) (event_count tree.items) (sort_of (declarations (pieces tree)) x) (names_of tree.items x)
 names_stand tree checked x =
     let items = tree.items in

@@ -5,15 +5,14 @@ use Rattle.std.proofs.lemmas.Nat.{mul-le}
 use Rattle.cn_base.specs.declared.tree.Stmt.{Stmt, ind-Stmt, map-Stmt, roll-Stmt}
 use Rattle.cn_base.specs.declared.tree.Stmt.TheVariants as stmt
 use Rattle.cn_base.specs.declared.tree.Stmt.TheOpen.{Stmt-F}
-use Rattle.cn_base.specs.Nests.{nest, block_nest}
-use Rattle.cn_base.proofs.NestLaws.{nest-set, nest-set_at, nest-out, nest-post, nest-if-none, nest-if-some, nest-while, nest-repeat}
+use Rattle.cn_base.specs.Nests.{nest, block_nest, StatementNests}
+use Rattle.cat_conditions.specs.PlainKinds.{StatementKinds}
 use Rattle.cat_program.specs.Body.{Body}
 use Rattle.cat_program.specs.Places.{expr_size, body_size}
 use Rattle.cat_program.specs.Checked.{depth_of, most_steps}
 use Rattle.cat_conditions.specs.Plain.{Action, Actions, no_action, action, Else, no_else, otherwise, action_of, block_of}
 use Rattle.cat_conditions.specs.Plain as plain
 use Rattle.cat_conditions.specs.Counts.{size, block_size, block_run}
-use Rattle.cat_conditions.proofs.PlainLaws.{action_set, action_set_at, action_out, action_post, action_if, action_loop, action_turns}
 use Rattle.cat_resolve.specs.Names.{Meanings}
 use Rattle.cat_resolve.proofs.Measures.{same_size}
 use Rattle.cat_resolve.proofs.Standing.{Stands, ends, sets, sets_at, emits, raises, whens, chooses, loops, turning}
@@ -121,32 +120,40 @@ block_as_deep (y ∷ ys) =
 abbrev of_each : List ((s : Stmt) × IsAsDeep s) → List Stmt
 of_each ys = map (λ y. y.0) ys
 
-deep_step : (y : Stmt-F ((s : Stmt) × IsAsDeep s)) → IsAsDeep (roll-Stmt (map-Stmt ((s : Stmt) × IsAsDeep s) Stmt (λ e. e.0) y))
-unfolding IsAsDeep
-deep_step (Stmt-F.Set x e) = subst IsAsDeep (sym (stmt.rolls-Set x e)) (ap action_depth (action_set x e) ∙ sym (nest-set x e))
-deep_step (Stmt-F.SetAt x i e) = subst IsAsDeep (sym (stmt.rolls-SetAt x i e)) (ap action_depth (action_set_at x i e) ∙ sym (nest-set_at x i e))
-deep_step (Stmt-F.Out n e) = subst IsAsDeep (sym (stmt.rolls-Out n e)) (ap action_depth (action_out n e) ∙ sym (nest-out n e))
-deep_step (Stmt-F.Post x) = subst IsAsDeep (sym (stmt.rolls-Post x)) (ap action_depth (action_post x) ∙ sym (nest-post x))
-deep_step (Stmt-F.If e xs None) =
-    subst IsAsDeep (sym (stmt.rolls-If e (of_each xs) None))
-    (ap action_depth (action_if e (of_each xs) None) ∙ ap (λ n. max n 0) (block_as_deep xs) ∙ sym (nest-if-none e (of_each xs)))
-deep_step (Stmt-F.If e xs (Some ys)) =
-    subst IsAsDeep (sym (stmt.rolls-If e (of_each xs) (Some (of_each ys))))
-    (ap action_depth (action_if e (of_each xs) (Some (of_each ys))) ∙ ap (λ n. max n (block_depth (block_of (of_each ys)))) (block_as_deep xs)
-    ∙ ap (max (block_nest (of_each xs))) (block_as_deep ys) ∙ sym (nest-if-some e (of_each xs) (of_each ys)))
-deep_step (Stmt-F.While e xs) =
-    subst IsAsDeep (sym (stmt.rolls-While e (of_each xs)))
-    (ap action_depth (action_loop e (of_each xs)) ∙ block_as_deep xs ∙ sym (nest-while e (of_each xs)))
-deep_step (Stmt-F.Repeat n xs) =
-    subst IsAsDeep (sym (stmt.rolls-Repeat n (of_each xs)))
-    (ap action_depth (action_turns n (of_each xs)) ∙ block_as_deep xs ∙ sym (nest-repeat n (of_each xs)))
+max_zero : (n : ℕ) → max n 0 ≡ n
+max_zero n = omega arith
 
-as_deep : (s : Stmt) → IsAsDeep s
-as_deep = ind-Stmt IsAsDeep (λ x y is. subst (λ z. IsAsDeep (roll-Stmt z)) is (deep_step y))
+-- a block as plain data is as deep
+abbrev pub BlocksAreAsDeep : Type 0
+BlocksAreAsDeep = (xs : List Stmt) → block_depth (block_of xs) ≡ block_nest xs
 
-pub block_deep : (xs : List Stmt) → block_depth (block_of xs) ≡ block_nest xs
-unfolding IsAsDeep
-block_deep [] = refl
-block_deep (x ∷ xs) =
-    let one : action_depth (action_of x) ≡ nest x = as_deep x in
-    omega (arith, one, block_deep xs)
+module _ (nests : StatementNests) (kinds : StatementKinds) where
+  deep_step : (y : Stmt-F ((s : Stmt) × IsAsDeep s)) → IsAsDeep (roll-Stmt (map-Stmt ((s : Stmt) × IsAsDeep s) Stmt (λ e. e.0) y))
+  unfolding IsAsDeep
+  deep_step (Stmt-F.Set x e) = subst IsAsDeep (sym (stmt.rolls-Set x e)) (ap action_depth (kinds.set x e) ∙ sym (nests.set x e))
+  deep_step (Stmt-F.SetAt x i e) = subst IsAsDeep (sym (stmt.rolls-SetAt x i e)) (ap action_depth (kinds.set_at x i e) ∙ sym (nests.set_at x i e))
+  deep_step (Stmt-F.Out n e) = subst IsAsDeep (sym (stmt.rolls-Out n e)) (ap action_depth (kinds.out n e) ∙ sym (nests.out n e))
+  deep_step (Stmt-F.Post x) = subst IsAsDeep (sym (stmt.rolls-Post x)) (ap action_depth (kinds.post x) ∙ sym (nests.post x))
+  deep_step (Stmt-F.If e xs None) =
+      subst IsAsDeep (sym (stmt.rolls-If e (of_each xs) None))
+      (ap action_depth (kinds.branch e (of_each xs) None) ∙ ap (λ n. max n 0) (block_as_deep xs) ∙ max_zero (block_nest (of_each xs)) ∙ sym (nests.when e (of_each xs)))
+  deep_step (Stmt-F.If e xs (Some ys)) =
+      subst IsAsDeep (sym (stmt.rolls-If e (of_each xs) (Some (of_each ys))))
+      (ap action_depth (kinds.branch e (of_each xs) (Some (of_each ys))) ∙ ap (λ n. max n (block_depth (block_of (of_each ys)))) (block_as_deep xs)
+      ∙ ap (max (block_nest (of_each xs))) (block_as_deep ys) ∙ sym (nests.choice e (of_each xs) (of_each ys)))
+  deep_step (Stmt-F.While e xs) =
+      subst IsAsDeep (sym (stmt.rolls-While e (of_each xs)))
+      (ap action_depth (kinds.loop e (of_each xs)) ∙ block_as_deep xs ∙ sym (nests.loop e (of_each xs)))
+  deep_step (Stmt-F.Repeat n xs) =
+      subst IsAsDeep (sym (stmt.rolls-Repeat n (of_each xs)))
+      (ap action_depth (kinds.turns n (of_each xs)) ∙ block_as_deep xs ∙ sym (nests.turns n (of_each xs)))
+
+  as_deep : (s : Stmt) → IsAsDeep s
+  as_deep = ind-Stmt IsAsDeep (λ x y is. subst (λ z. IsAsDeep (roll-Stmt z)) is (deep_step y))
+
+  pub block_deep : BlocksAreAsDeep
+  unfolding IsAsDeep
+  block_deep [] = refl
+  block_deep (x ∷ xs) =
+      let one : action_depth (action_of x) ≡ nest x = as_deep x in
+      omega (arith, one, block_deep xs)

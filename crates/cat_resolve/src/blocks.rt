@@ -9,6 +9,7 @@ ghost use Rattle.cat_resolve.specs.Ending.{Ends, Fits};
 
 use crate::expression::expression;
 use crate::names::{Meaning, Names};
+use cat_conditions::plain_law;
 use cat_program::{Expr, Stmt};
 use cn_base::{List, tree};
 use std::alloc::{AllocError, Global};
@@ -66,7 +67,6 @@ fn repeat(count: u32, body: u32) -> Stmt
 
 /// A statement, whose blocks are put behind those that have ended.
 #[cycle(stmt)]
-#[tactic(auto, using(cat_conditions::proofs::PlainLaws::action_set, cat_conditions::proofs::PlainLaws::action_set_at, cat_conditions::proofs::PlainLaws::action_out, cat_conditions::proofs::PlainLaws::action_post, cat_conditions::proofs::PlainLaws::action_if, cat_conditions::proofs::PlainLaws::action_loop, cat_conditions::proofs::PlainLaws::action_turns))]
 fn statement(
     alloc: Global,
     names: &Names,
@@ -77,6 +77,7 @@ fn statement(
     ensures value { IfOk result (λ s. command s ≡ spec.command_of (meanings names.now) (length blocks.old.items) (action_of source.now)) }
     ensures ended { IfOk result (λ s. Ends blocks.old.items blocks.new.items (λ n. spec.blocks_in (meanings names.now) n (action_of source.now))) }
 {
+    plain_law();
     match source {
         tree::Stmt::Set(name, value) => {
             let value = expression(alloc, names, value)?;

@@ -8,6 +8,7 @@ ghost use Rattle.cat_resolve.specs.Meanings.{meanings};
 ghost use Rattle.cat_resolve.specs.Resolved as spec;
 
 use crate::names::{Meaning, Names};
+use cat_conditions::plain_law;
 use cat_program::{Expr, Further, Operator, Sign};
 use cn_base::tree;
 use std::alloc::{AllocError, Global};
@@ -125,6 +126,7 @@ fn compared(
 pub fn expression(alloc: Global, names: &Names, source: &tree::Expr) -> Result<Expr, AllocError>
     ensures { IfOk result (λ e. form e ≡ spec.formula_of (meanings names.now) (term_of source.now)) }
 {
+    plain_law();
     match source {
         tree::Expr::Number(n) => Ok(number(*n)),
         tree::Expr::Truth(is_true) => Ok(truth(*is_true)),
@@ -160,6 +162,7 @@ fn operands(
 ) -> Result<Vec<Further>, AllocError>
     ensures { IfOk result (λ r. operands_of r.items ≡ spec.operands_from (meanings names.now) (furthers_of (map further_of source.now))) }
 {
+    plain_law();
     let mut rest = Vec::new(alloc);
     for other in source {
         let operand = expression(alloc, names, &other.operand)?;

@@ -11,7 +11,7 @@ mod names;
 mod program;
 
 pub use laws::checked_law;
-pub use program::resolve;
+pub use program::{checked, resolve};
 
 #[cfg(test)]
 mod tests;

@@ -2,6 +2,7 @@
 
 ghost use Rattle.std.specs.Prelude.{◌<◌, ◌^◌, length, IfOk};
 ghost use Rattle.cat_program.specs.Checked.{checked_of};
+ghost use Rattle.cat_conditions.specs.Conditions.{MeetsConditions};
 ghost use Rattle.cat_resolve.specs.Content.{blocks_from};
 ghost use Rattle.cat_resolve.specs.Header.{IsSmall};
 ghost use Rattle.cat_resolve.specs.Names.{names_of};
@@ -9,9 +10,10 @@ ghost use Rattle.cat_resolve.specs.Program.{IsProgramOf};
 
 use crate::bodies::build_all;
 use crate::declarations::declare_all;
-use cat_program::Parts;
-use cn_base::List;
+use crate::laws::checked_law;
+use cat_program::{Parts, Program};
 use cn_base::tree::Tree;
+use cn_base::{List, NoMemory};
 use std::alloc::{AllocError, Global};
 
 /// The program of a source: names become numbers, and each block gets one. A name stands for what the first item that declares it
@@ -44,4 +46,20 @@ pub fn resolve(alloc: Global, tree: &Tree) -> Result<Parts, AllocError>
         mentions: List::of(bodies.mentions),
         blocks: List::of(bodies.blocks),
     })
+}
+
+/// The program of a source that meets all conditions.
+///
+/// # Errors
+///
+/// `NoMemory` where memory is not found.
+pub fn checked(alloc: Global, tree: &Tree) -> Result<Program, NoMemory>
+    requires { MeetsConditions tree.now }
+    ensures { IfOk result (λ p. IsProgramOf tree.now p) }
+{
+    checked_law();
+    match resolve(alloc, tree) {
+        Ok(parts) => Ok(Program::of(parts)),
+        Err(_) => Err(NoMemory),
+    }
 }

@@ -10,7 +10,7 @@ use Rattle.cat_conditions.specs.Counts.{size, further_size, need, further_need}
 use Rattle.cat_conditions.specs.declared.sort.ValueType.{ValueType}
 use Rattle.cat_conditions.specs.Names.{Sorts}
 use Rattle.cat_conditions.specs.Types.{chain_type, is_same, operator_type, is_of, furthers_are_of}
-use Rattle.cat_conditions.proofs.PlainLaws.{further_out}
+use Rattle.cat_conditions.specs.PlainKinds.{ExpressionKinds}
 use Rattle.cat_types.specs.declared.pieces.Piece.{Piece}
 use Rattle.cat_types.specs.Shown.{shown, all_shown, Adds}
 use Rattle.cat_conditions.specs.Pieces as spec
@@ -47,34 +47,35 @@ continues_last {X} {pieces} {a} {b} {xs} {i} f h e = record {
 pub item_next : {X : Type 0} (xs : List X) (i : ℕ) (x : X) → x ≡ get_or xs i x → i < length xs → drop i xs ≡ x ∷ drop (i + 1) xs
 item_next xs i x e h = rw add-one (drop-cons xs i x h ∙ ap (λ y. y ∷ drop (suc i) xs) (sym e))
 
-pub further_next : (event : Bool) (f : Further) (fs : List Further)
-    → further_terms event (furthers_of (map further_of (f ∷ fs))) ≡ term_pieces event (term_of (out-Further f).operand) ++ further_terms event (furthers_of (map further_of fs))
-further_next event f fs = ap (λ p. further_terms event (furthers_of (p ∷ map further_of fs))) (further_out f)
+module _ (kinds : ExpressionKinds) where
+  pub further_next : (event : Bool) (f : Further) (fs : List Further)
+      → further_terms event (furthers_of (map further_of (f ∷ fs))) ≡ term_pieces event (term_of (out-Further f).operand) ++ further_terms event (furthers_of (map further_of fs))
+  further_next event f fs = ap (λ p. further_terms event (furthers_of (p ∷ map further_of fs))) (kinds.further f)
 
-pub size_next : (xs : List Further) (i : ℕ) (f : Further) → f ≡ get_or xs i f → i < length xs
-    → further_size (furthers_of (map further_of (drop i xs))) ≡ size (term_of (out-Further f).operand) + 1 + further_size (furthers_of (map further_of (drop (i + 1) xs)))
-size_next xs i f e h =
-    ap (λ fs. further_size (furthers_of (map further_of fs))) (item_next xs i f e h)
-    ∙ ap (λ p. further_size (furthers_of (p ∷ map further_of (drop (i + 1) xs)))) (further_out f)
+  pub size_next : (xs : List Further) (i : ℕ) (f : Further) → f ≡ get_or xs i f → i < length xs
+      → further_size (furthers_of (map further_of (drop i xs))) ≡ size (term_of (out-Further f).operand) + 1 + further_size (furthers_of (map further_of (drop (i + 1) xs)))
+  size_next xs i f e h =
+      ap (λ fs. further_size (furthers_of (map further_of fs))) (item_next xs i f e h)
+      ∙ ap (λ p. further_size (furthers_of (p ∷ map further_of (drop (i + 1) xs)))) (kinds.further f)
 
-pub need_next : (xs : List Further) (i : ℕ) (f : Further) → f ≡ get_or xs i f → i < length xs
-    → further_need (furthers_of (map further_of (drop i xs))) ≡ max (need (term_of (out-Further f).operand) + 1) (further_need (furthers_of (map further_of (drop (i + 1) xs))))
-need_next xs i f e h =
-    ap (λ fs. further_need (furthers_of (map further_of fs))) (item_next xs i f e h)
-    ∙ ap (λ p. further_need (furthers_of (p ∷ map further_of (drop (i + 1) xs)))) (further_out f)
+  pub need_next : (xs : List Further) (i : ℕ) (f : Further) → f ≡ get_or xs i f → i < length xs
+      → further_need (furthers_of (map further_of (drop i xs))) ≡ max (need (term_of (out-Further f).operand) + 1) (further_need (furthers_of (map further_of (drop (i + 1) xs))))
+  need_next xs i f e h =
+      ap (λ fs. further_need (furthers_of (map further_of fs))) (item_next xs i f e h)
+      ∙ ap (λ p. further_need (furthers_of (p ∷ map further_of (drop (i + 1) xs)))) (kinds.further f)
 
-pub are_next : (sorts : Sorts) (t : ValueType) (xs : List Further) (i : ℕ) (f : Further) → f ≡ get_or xs i f → i < length xs
-    → furthers_are_of sorts t (furthers_of (map further_of (drop i xs)))
-    ≡ (is_same t (operator_type (out-Further f).operator) && is_of sorts t (term_of (out-Further f).operand) && furthers_are_of sorts t (furthers_of (map further_of (drop (i + 1) xs))))
-are_next sorts t xs i f e h =
-    ap (λ fs. furthers_are_of sorts t (furthers_of (map further_of fs))) (item_next xs i f e h)
-    ∙ ap (λ p. furthers_are_of sorts t (furthers_of (p ∷ map further_of (drop (i + 1) xs)))) (further_out f)
+  pub are_next : (sorts : Sorts) (t : ValueType) (xs : List Further) (i : ℕ) (f : Further) → f ≡ get_or xs i f → i < length xs
+      → furthers_are_of sorts t (furthers_of (map further_of (drop i xs)))
+      ≡ (is_same t (operator_type (out-Further f).operator) && is_of sorts t (term_of (out-Further f).operand) && furthers_are_of sorts t (furthers_of (map further_of (drop (i + 1) xs))))
+  are_next sorts t xs i f e h =
+      ap (λ fs. furthers_are_of sorts t (furthers_of (map further_of fs))) (item_next xs i f e h)
+      ∙ ap (λ p. furthers_are_of sorts t (furthers_of (p ∷ map further_of (drop (i + 1) xs)))) (kinds.further f)
 
-pub chain_first : (xs : List Further) (f : Further) → Some f ≡ slice_get xs 0 → chain_type (furthers_of (map further_of xs)) ≡ Some (operator_type (out-Further f).operator)
-chain_first [] f e = absurd (cc)
-chain_first (x ∷ xs) f e =
-    let same : x ≡ f = cc in
-    ap (λ p. chain_type (furthers_of (p ∷ map further_of xs))) (further_out x) ∙ ap (λ y. Some (operator_type (out-Further y).operator)) same
+  pub chain_first : (xs : List Further) (f : Further) → Some f ≡ slice_get xs 0 → chain_type (furthers_of (map further_of xs)) ≡ Some (operator_type (out-Further f).operator)
+  chain_first [] f e = absurd (cc)
+  chain_first (x ∷ xs) f e =
+      let same : x ≡ f = cc in
+      ap (λ p. chain_type (furthers_of (p ∷ map further_of xs))) (kinds.further x) ∙ ap (λ y. Some (operator_type (out-Further y).operator)) same
 
 pub and_true : (a b : Bool) → a ≡ true → (a && b) ≡ b
 and_true true b e = refl

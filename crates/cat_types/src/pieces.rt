@@ -6,6 +6,7 @@ ghost use Rattle.cat_conditions.specs.Pieces as spec;
 ghost use Rattle.cat_conditions.specs.Pieces.{term_pieces, inner_terms, further_terms, block_pieces, inner_pieces, versions_pieces, item_pieces, items_pieces};
 ghost use Rattle.cat_types.specs.Shown.{shown, all_shown, Adds};
 
+use cat_conditions::plain_law;
 use cn_base::NoMemory;
 use cn_base::tree::{Expr, Further, Item, Stmt, Tree};
 use sqlite_items::Items;
@@ -33,10 +34,11 @@ fn add_expr<'a>(found: &mut Vec<Piece<'a>>, in_event: bool, expr: &'a Expr) -> R
 }
 
 #[cycle(expr)]
-#[tactic(auto, using(cat_conditions::proofs::PlainLaws::term_number, cat_conditions::proofs::PlainLaws::term_truth, cat_conditions::proofs::PlainLaws::term_payload, cat_conditions::proofs::PlainLaws::term_name, cat_conditions::proofs::PlainLaws::term_element, cat_conditions::proofs::PlainLaws::term_signed, cat_conditions::proofs::PlainLaws::term_chain, cat_conditions::proofs::PlainLaws::term_compare, crate::proofs::Adding::adds_none, crate::proofs::Adding::adds_then))]
+#[tactic(auto, using(crate::proofs::Adding::adds_none, crate::proofs::Adding::adds_then))]
 fn add_inner<'a>(found: &mut Vec<Piece<'a>>, in_event: bool, expr: &'a Expr) -> Result<(), NoMemory>
     ensures { OnOk result (Adds found.old.items found.new.items (inner_terms in_event (term_of expr.now))) }
 {
+    plain_law();
     match expr {
         Expr::Number(_) | Expr::Truth(_) | Expr::Payload | Expr::Name(_) => Ok(()),
         Expr::Element(_, index) => add_expr(found, in_event, index.get()),
@@ -60,6 +62,7 @@ fn add_furthers<'a>(
 ) -> Result<(), NoMemory>
     ensures { OnOk result (Adds found.old.items found.new.items (further_terms in_event (furthers_of (map further_of others.now)))) }
 {
+    plain_law();
     for other in others {
         add_expr(found, in_event, &other.operand)?;
     }
@@ -83,7 +86,7 @@ fn add_block<'a>(
 }
 
 #[cycle(stmt)]
-#[tactic(auto, using(cat_conditions::proofs::PlainLaws::action_set, cat_conditions::proofs::PlainLaws::action_set_at, cat_conditions::proofs::PlainLaws::action_out, cat_conditions::proofs::PlainLaws::action_post, cat_conditions::proofs::PlainLaws::action_if, cat_conditions::proofs::PlainLaws::action_loop, cat_conditions::proofs::PlainLaws::action_turns, crate::proofs::Adding::adds_none, crate::proofs::Adding::adds_then))]
+#[tactic(auto, using(crate::proofs::Adding::adds_none, crate::proofs::Adding::adds_then))]
 fn add_inside<'a>(
     found: &mut Vec<Piece<'a>>,
     in_event: bool,
@@ -92,6 +95,7 @@ fn add_inside<'a>(
 ) -> Result<(), NoMemory>
     ensures { OnOk result (Adds found.old.items found.new.items (inner_pieces in_event room (action_of statement.now))) }
 {
+    plain_law();
     match statement {
         Stmt::Set(_, value) | Stmt::Out(_, value) => add_expr(found, in_event, value),
         Stmt::SetAt(_, index, value) => {

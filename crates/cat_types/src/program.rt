@@ -7,7 +7,7 @@ ghost use Rattle.cat_resolve.specs.Program.{IsProgramOf};
 use crate::checks::verdict;
 use cat_conditions::TypeFault;
 use cat_program::Program;
-use cat_resolve::{checked_law, resolve};
+use cat_resolve::checked;
 use cn_base::tree::Tree;
 use std::alloc::Global;
 
@@ -23,9 +23,8 @@ pub fn check(alloc: Global, tree: &Tree) -> Result<Program, TypeFault>
     ensures program { IfOk result (λ p. IsProgramOf tree.now p) }
 {
     verdict(alloc, tree)?;
-    checked_law();
-    match resolve(alloc, tree) {
-        Ok(parts) => Ok(Program::of(parts)),
+    match checked(alloc, tree) {
+        Ok(program) => Ok(program),
         Err(_) => Err(TypeFault::NoMemory),
     }
 }

@@ -11,6 +11,7 @@ ghost use Rattle.cat_types.specs.Rules.{is_broken};
 
 use crate::pieces::Piece;
 use crate::sizes;
+use cat_conditions::plain_law;
 use cn_base::tree::{Expr, Item, Stmt, Timing};
 use sqlite_items::Items;
 
@@ -84,10 +85,10 @@ fn has_item_in_range(item: &Item) -> bool
     }
 }
 
-#[tactic(auto, using(cat_conditions::proofs::PlainLaws::action_laws))]
 fn has_statement_in_range(statement: &Stmt) -> bool
     ensures { result ≡ spec.has_action_in_range (action_of statement.now) }
 {
+    plain_law();
     match statement {
         Stmt::Out(channel, _) => *channel <= 255,
         Stmt::Repeat(count, _) => *count <= 1_000,
@@ -114,10 +115,10 @@ fn has_many_versions(piece: &Piece<'_>) -> bool
     }
 }
 
-#[tactic(auto, using(cat_conditions::proofs::PlainLaws::action_laws))]
 fn is_while(statement: &Stmt) -> bool
     ensures { result ≡ spec.is_loop (action_of statement.now) }
 {
+    plain_law();
     match statement {
         Stmt::While(..) => true,
         Stmt::Set(..) | Stmt::SetAt(..) | Stmt::Out(..) | Stmt::Post(_) | Stmt::If(..) => false,
@@ -125,10 +126,10 @@ fn is_while(statement: &Stmt) -> bool
     }
 }
 
-#[tactic(auto, using(cat_conditions::proofs::PlainLaws::action_laws))]
 fn is_repeat(statement: &Stmt) -> bool
     ensures { result ≡ spec.is_turns (action_of statement.now) }
 {
+    plain_law();
     match statement {
         Stmt::Repeat(..) => true,
         Stmt::Set(..) | Stmt::SetAt(..) | Stmt::Out(..) | Stmt::Post(_) | Stmt::If(..) => false,
@@ -136,10 +137,10 @@ fn is_repeat(statement: &Stmt) -> bool
     }
 }
 
-#[tactic(auto, using(cat_conditions::proofs::PlainLaws::term_laws))]
 fn is_payload(expr: &Expr) -> bool
     ensures { result ≡ spec.is_payload (term_of expr.now) }
 {
+    plain_law();
     match expr {
         Expr::Payload => true,
         Expr::Number(_) | Expr::Truth(_) | Expr::Name(_) | Expr::Element(..) => false,

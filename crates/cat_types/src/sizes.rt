@@ -6,6 +6,7 @@ ghost use Rattle.cat_conditions.specs.Counts as spec;
 ghost use Rattle.cat_conditions.specs.Plain.{action_of, term_of, further_of, furthers_of, block_of};
 ghost use Rattle.cat_types.specs.Capped.{capped};
 
+use cat_conditions::plain_law;
 use cn_base::tree::{Expr, Further, Stmt};
 
 /// One more than each limit.
@@ -26,10 +27,10 @@ fn larger(a: u32, b: u32) -> u32
 
 /// How many instructions an expression has.
 #[cycle(expr)]
-#[tactic(auto, using(cat_conditions::proofs::PlainLaws::term_laws))]
 pub fn size(expr: &Expr) -> u32
     ensures { result ≡ capped (spec.size (term_of expr.now)) }
 {
+    plain_law();
     match expr {
         Expr::Number(_) | Expr::Truth(_) | Expr::Payload | Expr::Name(_) => 1,
         Expr::Element(_, index) => add(size(index.get()), 1),
@@ -43,6 +44,7 @@ pub fn size(expr: &Expr) -> u32
 fn further_size(others: &[Further]) -> u32
     ensures { result ≡ capped (spec.further_size (furthers_of (map further_of others.now))) }
 {
+    plain_law();
     let mut sum = 0;
     for other in others {
         sum = add(sum, add(size(&other.operand), 1));
@@ -52,10 +54,10 @@ fn further_size(others: &[Further]) -> u32
 
 /// How many operands an expression needs at once.
 #[cycle(need)]
-#[tactic(auto, using(cat_conditions::proofs::PlainLaws::term_laws))]
 pub fn need(expr: &Expr) -> u32
     ensures { result ≡ capped (spec.need (term_of expr.now)) }
 {
+    plain_law();
     match expr {
         Expr::Number(_) | Expr::Truth(_) | Expr::Payload | Expr::Name(_) => 1,
         Expr::Element(_, index) => need(index.get()),
@@ -69,6 +71,7 @@ pub fn need(expr: &Expr) -> u32
 fn further_need(others: &[Further]) -> u32
     ensures { result ≡ capped (spec.further_need (furthers_of (map further_of others.now))) }
 {
+    plain_law();
     let mut most = 0;
     for other in others {
         most = larger(most, add(need(&other.operand), 1));
@@ -77,10 +80,10 @@ fn further_need(others: &[Further]) -> u32
 }
 
 /// How many operands a statement needs by itself.
-#[tactic(auto, using(cat_conditions::proofs::PlainLaws::action_laws))]
 pub fn statement_need(statement: &Stmt) -> u32
     ensures { result ≡ capped (spec.action_need (action_of statement.now)) }
 {
+    plain_law();
     match statement {
         Stmt::Set(_, value) | Stmt::Out(_, value) => need(value),
         Stmt::SetAt(_, index, value) => larger(need(index), add(need(value), 1)),
@@ -92,10 +95,10 @@ pub fn statement_need(statement: &Stmt) -> u32
 
 /// How many instructions the code of a statement has.
 #[cycle(size)]
-#[tactic(auto, using(cat_conditions::proofs::PlainLaws::action_laws))]
 fn statement_size(statement: &Stmt) -> u32
     ensures { result ≡ capped (spec.action_size (action_of statement.now)) }
 {
+    plain_law();
     match statement {
         Stmt::Set(_, value) | Stmt::Out(_, value) => add(size(value), 1),
         Stmt::SetAt(_, index, value) => add(add(size(index), size(value)), 1),
@@ -134,10 +137,10 @@ fn turns_run(count: u32, body: u32) -> u32
 
 /// The greatest count of instructions that one run of a statement has.
 #[cycle(run)]
-#[tactic(auto, using(cat_conditions::proofs::PlainLaws::action_laws))]
 fn statement_run(statement: &Stmt) -> u32
     ensures { result ≡ capped (spec.action_run (action_of statement.now)) }
 {
+    plain_law();
     match statement {
         Stmt::Set(_, value) | Stmt::Out(_, value) => add(size(value), 1),
         Stmt::SetAt(_, index, value) => add(add(size(index), size(value)), 1),

@@ -10,7 +10,7 @@ ghost use Rattle.cat_types.specs.Sorts.{sorts};
 
 use crate::names::Names;
 use crate::pieces::Piece;
-use cat_conditions::{Sort, ValueType};
+use cat_conditions::{Sort, ValueType, plain_law};
 use cn_base::Text;
 use cn_base::tree::{Comparison, Expr, Further, Item, Operator, Sign, Stmt};
 
@@ -55,6 +55,7 @@ fn sign_type(sign: Sign) -> ValueType
 fn chain_type(others: &[Further]) -> Option<ValueType>
     ensures { result ≡ spec.chain_type (furthers_of (map further_of others.now)) }
 {
+    plain_law();
     match others.first() {
         Some(other) => Some(operator_type(other.operator)),
         None => None,
@@ -117,10 +118,10 @@ fn is_event(sort: Option<Sort>) -> bool
 }
 
 impl Names<'_> {
-    #[tactic(auto, using(cat_conditions::proofs::PlainLaws::term_laws))]
     fn type_of(&self, expr: &Expr) -> Option<ValueType>
         ensures { result ≡ spec.type_of (sorts self.now) (term_of expr.now) }
     {
+        plain_law();
         match expr {
             Expr::Number(_) | Expr::Payload => Some(ValueType::Int),
             Expr::Truth(_) | Expr::Compare(..) => Some(ValueType::Bool),
@@ -147,6 +148,7 @@ impl Names<'_> {
     fn furthers_are_of(&self, value_type: ValueType, others: &[Further]) -> bool
         ensures { result ≡ spec.furthers_are_of (sorts self.now) value_type (furthers_of (map further_of others.now)) }
     {
+        plain_law();
         for other in others {
             if !self.further_is_of(value_type, other) {
                 return false;
@@ -176,10 +178,10 @@ impl Names<'_> {
         }
     }
 
-    #[tactic(auto, using(cat_conditions::proofs::PlainLaws::term_laws))]
     fn expr_agrees(&self, expr: &Expr) -> bool
         ensures { result ≡ spec.term_agrees (sorts self.now) (term_of expr.now) }
     {
+        plain_law();
         match expr {
             Expr::Number(_) | Expr::Truth(_) | Expr::Payload => true,
             Expr::Name(name) => is_plain(self.sort(name)),
@@ -194,10 +196,10 @@ impl Names<'_> {
         }
     }
 
-    #[tactic(auto, using(cat_conditions::proofs::PlainLaws::action_laws))]
     fn statement_agrees(&self, statement: &Stmt) -> bool
         ensures { result ≡ spec.action_agrees (sorts self.now) (action_of statement.now) }
     {
+        plain_law();
         match statement {
             Stmt::Set(name, value) => {
                 let sort = self.sort(name);

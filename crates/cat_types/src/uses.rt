@@ -10,6 +10,7 @@ ghost use Rattle.cat_types.specs.Sorts.{sorts, AreOf, is_unknown};
 
 use crate::names::Names;
 use crate::pieces::Piece;
+use cat_conditions::plain_law;
 use cn_base::Text;
 use cn_base::tree::{Expr, Item, Stmt};
 
@@ -41,20 +42,20 @@ impl Names<'_> {
         }
     }
 
-    #[tactic(auto, using(cat_conditions::proofs::PlainLaws::action_laws))]
     fn statement_lacks(&self, statement: &Stmt) -> bool
         ensures { result ≡ list_any (is_unknown self.now) (spec.action_names (action_of statement.now)) }
     {
+        plain_law();
         match statement {
             Stmt::Set(name, _) | Stmt::SetAt(name, ..) | Stmt::Post(name) => self.lacks(name),
             Stmt::Out(..) | Stmt::If(..) | Stmt::While(..) | Stmt::Repeat(..) => false,
         }
     }
 
-    #[tactic(auto, using(cat_conditions::proofs::PlainLaws::term_laws))]
     fn expr_lacks(&self, expr: &Expr) -> bool
         ensures { result ≡ list_any (is_unknown self.now) (spec.term_names (term_of expr.now)) }
     {
+        plain_law();
         match expr {
             Expr::Name(name) | Expr::Element(name, _) => self.lacks(name),
             Expr::Number(_) | Expr::Truth(_) | Expr::Payload => false,

@@ -7,10 +7,9 @@ use Rattle.std.proofs.lemmas.Bool.Decides.{nat_tests}
 use Rattle.cat_program.specs.Checked.{Checked}
 use Rattle.cn_tables.specs.declared.fault.RowKind.TheVariants.{Long}
 use Rattle.cn_tables.specs.Table.{Bad, Fields, Step, table_rows, then_rows, read_rows, read_table}
-use Rattle.event_arrivals.specs.Arrivals.{Lists, arrivals_of, lists_or_bad, timings_of}
+use Rattle.event_arrivals.specs.Arrivals.{arrivals_of, lists_or_bad, timings_of}
 use Rattle.harvest_trace.specs.FailsTable.{fails_of}
 use Rattle.harvest_trace.specs.TraceTable.{trace_of}
-use Rattle.harvest_trace.specs.declared.failures.Failure.{Failure}
 use Rattle.harvest_trace.specs.declared.row.TraceRow.{TraceRow}
 use Rattle.nv_memory.specs.declared.device.Device.{Device}
 use Rattle.catnap_top.specs.declared.words.Form.{Form}
@@ -21,9 +20,9 @@ use Rattle.catnap_top.specs.declared.fault.ProfileFault.TheVariants as profile
 use Rattle.catnap_top.specs.declared.fault.Table.{Table}
 use Rattle.catnap_top.specs.declared.fault.Fault.TheVariants as fault
 use Rattle.catnap_top.specs.Answer.{Answer, most_bytes}
-use Rattle.catnap_top.specs.Source.{most_source, IsSourceOf, IsRefused, too_long, no_tokens, no_tree, unchecked}
+use Rattle.catnap_top.specs.Source.{most_source, IsRefused, too_long, no_tokens, no_tree, unchecked}
 use Rattle.catnap_top.specs.Files.{IsSource, program_in, IsProfile, device_in, table_in, trace_in, arrivals_in, failures_in, files_in}
-use Rattle.catnap_top.specs.Look.{Look, By}
+use Rattle.catnap_top.specs.Look.{Look}
 use Rattle.catnap_top.specs.Reply.{looks_of, CallsFor}
 use Rattle.catnap_top.proofs.Looks.{Leads, by_leads, then_leads, comes_to_leads}
 

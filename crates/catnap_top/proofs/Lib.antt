@@ -2,6 +2,7 @@ pub mod AskMore
 pub mod Causes
 pub mod Closing
 pub mod Digits
+pub mod Forms
 pub mod ReadMore
 pub mod Running
 mod Refusing
@@ -17,5 +18,10 @@ pub mod OneAnswer
 pub mod Stopping
 pub mod Preparing
 pub mod Living
-pub mod Arriving
 pub mod OneReport
+pub mod HeadlineFiles
+pub mod HeadlineText
+pub mod HeadlineDeadlines
+pub mod HeadlineRuns
+pub mod HeadlineAnswer
+pub mod OneLife

@@ -1,6 +1,6 @@
 -- What a replay that has ended tells.
-use Rattle.std.proofs.Common.{◌≡◌, ℕ, ◌*◌, ◌≤◌, arith, replicate, false, List, [], ◌∷◌, ◌++◌, length, take, Result, Ok, Err, refl, sym, ap, ◌∙◌, subst, le_refl}
-use Rattle.cat_program.specs.Checked.{Checked, IsChecked}
+use Rattle.std.proofs.Common.{◌≡◌, ℕ, ◌*◌, arith, replicate, List, [], ◌++◌, length, take, Ok, refl, sym, ap, ◌∙◌, subst, le_refl}
+use Rattle.cat_program.specs.Checked.{Checked}
 use Rattle.harvest_trace.specs.declared.failures.Failure.{Failure}
 use Rattle.harvest_trace.specs.declared.row.TraceRow.{TraceRow}
 use Rattle.nv_memory.specs.declared.device.Device.{Device}
@@ -14,7 +14,6 @@ use Rattle.checkpoint_slots.specs.Slot.{spelling}
 use Rattle.std.proofs.lemmas.List.{length-replicate}
 use Rattle.recovery.specs.First.{IsFresh}
 use Rattle.recovery.specs.Committed.{IsCommitted}
-use Rattle.event_arrivals.specs.Arrivals.{Lists}
 use Rattle.degradation.specs.declared.chosen.Chosen.{Chosen}
 use Rattle.degradation.specs.Choice.{supply_of, Suits}
 use Rattle.degradation.specs.Placed.{IsLayoutOf}
@@ -35,14 +34,12 @@ use Rattle.checkpoint_slots.specs.Slot.{IsMadeFor}
 use Rattle.board_core.specs.declared.model_board.ModelBoard.{ModelBoard}
 use Rattle.board_core.specs.ModelBoardState.{origin_of, state_of}
 use Rattle.cn_report.specs.declared.shadow.Shadow.{Shadow}
-use Rattle.cn_report.specs.Past.{Past, image_at, last_image, past_of}
+use Rattle.recovery.specs.Past.{image_at, past_of}
 use Rattle.cn_report.specs.Whole.{report_text, IsReplayed as IsTold}
 use Rattle.catnap_top.specs.declared.files.ReplayFiles.{ReplayFiles}
-use Rattle.catnap_top.specs.declared.fault.Fault.{Fault}
 use Rattle.catnap_top.specs.declared.fault.NoChoice.TheVariants as none
-use Rattle.catnap_top.specs.Answer.{Answer}
 use Rattle.catnap_top.specs.Look.{Stops, fits, fails, goes}
-use Rattle.catnap_top.specs.Lives.{Life, Lives, first_point, reported, status_of}
+use Rattle.catnap_top.specs.Lives.{Lives, first_point, status_of}
 use Rattle.catnap_top.specs.Served.{versions_in, stop_of_replay}
 use Rattle.catnap_top.specs.declared.replay.Replayed.{Replayed}
 use Rattle.catnap_top.specs.Replay.{living}

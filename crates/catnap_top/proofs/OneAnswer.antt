@@ -21,6 +21,7 @@ use Rattle.catnap_top.specs.Alike.{AreAlike, Agree, IsSameProgram, AreSameFiles}
 use Rattle.catnap_top.specs.OneLife.{LivesAreOne}
 use Rattle.catnap_top.specs.Files.{IsSource, program_in, IsProfile, device_in, table_in, arrivals_in, files_in}
 use Rattle.catnap_top.specs.Served.{Serves, versions_in}
+use Rattle.catnap_top.specs.Replay.{replaying}
 use Rattle.catnap_top.specs.Reply.{looks_of, CallsFor}
 use Rattle.catnap_top.proofs.Looks.{by_agree, then_agree, found_agree, comes_to_one}
 use Rattle.catnap_top.proofs.OneReport.{SameCode, reports_agree}
@@ -40,6 +41,14 @@ table_agree which told same e =
     by_agree (λ x y. x ≡ y) (λ bad. fault.Table which bad.0 bad.1) (λ came. told ≡ came) (λ came. same ≡ came) (told_agree told same e)
 
 -- ---- chains
+
+-- looks that agree, with what each of them found
+agree_given : {A B E : Type 0} (same : A → B → Type 0) (look : Result A E → Type 0) (other : Result B E → Type 0) → Agree same look other
+    → Agree (λ x y. same x y × look (Ok x) × other (Ok y)) look other
+agree_given same look other agree (Ok x) (Ok y) h k = (agree (Ok x) (Ok y) h k, h, k)
+agree_given same look other agree (Ok x) (Err g) h k = agree (Ok x) (Err g) h k
+agree_given same look other agree (Err f) (Ok y) h k = agree (Err f) (Ok y) h k
+agree_given same look other agree (Err f) (Err g) h k = agree (Err f) (Err g) h k
 
 module _ (source : (bytes : List ℕ) → Agree IsSameProgram (IsSource bytes) (IsSource bytes))
     (profile : (bytes : List ℕ) → Agree (λ (d e : Device). d ≡ e) (IsProfile bytes) (IsProfile bytes))
@@ -69,23 +78,31 @@ module _ (source : (bytes : List ℕ) → Agree IsSameProgram (IsSource bytes) (
       (λ k l arrivals. then_agree (λ x y. x ≡ y) AreSameFiles _ _ _ _ (table_agree table.Fails (fails_of f) (fails_of f) refl)
       (λ m n failures. found_agree AreSameFiles _ _ (record { program = are; device = device; trace = trace; arrivals = arrivals; failures = failures }))))))
 
-  module _ (first : SameFirst) (each : SameStep) (listing : SameListing) (code : SameCode) where
-    one_looks : (form : Form) (files : List (List ℕ)) → (form ≡ Replay → LivesAreOne) → Agree (λ (a b : Answer). a ≡ b) (looks_of form files) (looks_of form files)
-    one_looks (Run steps) files one =
+  -- a replay of what the files tell
+  replays_agree : SameCode → LivesAreOne → (s d t a f : List ℕ) → Agree (λ (a b : Answer). a ≡ b) (replaying s d t a f) (replaying s d t a f)
+  replays_agree code one s d t a f =
+      then_agree (λ x y. AreSameFiles x y × files_in s d t a f (Ok x) × files_in s d t a f (Ok y)) (λ a b. a ≡ b) _ _ _ _ (agree_given AreSameFiles (files_in s d t a f) (files_in s d t a f) (files_agree s d t a f))
+      (λ x y both.
+      let same : AreSameFiles x y = both.0 in
+      let looks = versions_in x.program x.device (supply_of x.device) in
+      let others = versions_in y.program y.device (supply_of y.device) in
+      then_agree (λ c e. (c ≡ e) × looks (Ok c) × others (Ok e)) (λ a b. a ≡ b) _ _ _ _ (agree_given (λ c e. c ≡ e) looks others (versions x.program y.program x.device y.device same.program same.device))
+      (λ c e chosen. reports_agree code x y same c e (λ one_life other. one s d t a f y c one_life other both.2 (subst (λ (v : Chosen). others (Ok v)) (sym chosen.0) chosen.2)) chosen.0))
+
+  module _ (first : SameFirst) (each : SameStep) (listing : SameListing) (code : SameCode) (one : LivesAreOne) where
+    one_looks : (form : Form) (files : List (List ℕ)) → Agree (λ (a b : Answer). a ≡ b) (looks_of form files) (looks_of form files)
+    one_looks (Run steps) files =
         then_agree IsSameProgram (λ a b. a ≡ b) _ _ _ _ (programs (get_or files 0 []))
         (λ p q are. found_agree (λ a b. a ≡ b) _ _ (ran_same first each p q are.same steps))
-    one_looks Listing files one =
+    one_looks Listing files =
         then_agree IsSameProgram (λ a b. a ≡ b) _ _ _ _ (programs (get_or files 0 []))
         (λ p q are. found_agree (λ a b. a ≡ b) _ _ (listed_same listing p q are.same))
-    one_looks Check files one =
+    one_looks Check files =
         then_agree IsSameProgram (λ a b. a ≡ b) _ _ _ _ (programs (get_or files 0 []))
         (λ p q are. then_agree (λ d e. d ≡ e) (λ a b. a ≡ b) _ _ _ _ (devices (get_or files 1 []))
         (λ d e same. then_agree (λ x y. x ≡ y) (λ a b. a ≡ b) _ _ _ _ (versions p q d e are same)
         (λ x y equal. found_agree (λ a b. a ≡ b) _ _ (checked_same p q x y are.same equal))))
-    one_looks Replay files one =
-        then_agree AreSameFiles (λ a b. a ≡ b) _ _ _ _ (files_agree (get_or files 0 []) (get_or files 1 []) (get_or files 2 []) (get_or files 3 []) (get_or files 4 []))
-        (λ x y same. then_agree (λ c e. c ≡ e) (λ a b. a ≡ b) _ _ _ _ (versions x.program y.program x.device y.device same.program same.device)
-        (λ c e equal. reports_agree code x y same (one refl) c e equal))
+    one_looks Replay files = replays_agree code one (get_or files 0 []) (get_or files 1 []) (get_or files 2 []) (get_or files 3 []) (get_or files 4 [])
 
-    pub one_answer : (form : Form) (files : List (List ℕ)) (a b : Answer) → (form ≡ Replay → LivesAreOne) → CallsFor form files a → CallsFor form files b → a ≡ b
-    one_answer form files a b one h k = comes_to_one (looks_of form files) (looks_of form files) (one_looks form files one) a b h k
+    pub one_answer : (form : Form) (files : List (List ℕ)) (a b : Answer) → CallsFor form files a → CallsFor form files b → a ≡ b
+    one_answer form files a b h k = comes_to_one (looks_of form files) (looks_of form files) (one_looks form files) a b h k

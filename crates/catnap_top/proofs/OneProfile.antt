@@ -1,5 +1,5 @@
 -- A profile tells one device, or is refused for one kind.
-use Rattle.std.proofs.Common.{◌≡◌, ℕ, List, Result, Ok, Err, Some, refl, ap, sym, ◌∙◌, arith}
+use Rattle.std.proofs.Common.{◌≡◌, ℕ, List, Ok, Err, Some, refl, ap, sym, ◌∙◌, arith}
 use Rattle.nv_memory.specs.declared.device.Device.{Device}
 use Rattle.device_profile.specs.Profile.{profile_of}
 use Rattle.device_profile.specs.Told.{profile_told}

@@ -1,12 +1,12 @@
 -- Files that tell the same call for the same lives and for the same reports.
-use Rattle.std.proofs.Common.{◌≡◌, ℕ, false, List, [], length, map, Result, Ok, None, Some, replicate, refl, sym, ap, ◌∙◌, subst}
+use Rattle.std.proofs.Common.{◌≡◌, ℕ, false, List, length, map, Ok, None, replicate, refl, sym, ap, ◌∙◌, subst}
 use Rattle.cat_program.specs.declared.headers.Event.{Event}
 use Rattle.cat_program.specs.Checked.{Checked}
 use Rattle.cat_machine.specs.Code.{code_of}
 use Rattle.nv_memory.specs.declared.device.Device.{Device}
 use Rattle.nv_memory.specs.declared.layout.Layout.{Layout}
 use Rattle.recovery.specs.First.{IsFresh}
-use Rattle.recovery.specs.Committed.{RestsAt}
+use Rattle.cat_program.specs.Resting.{RestsAt}
 use Rattle.degradation.specs.declared.chosen.Chosen.{Chosen}
 use Rattle.board_core.specs.declared.origin.ModelOrigin.{ModelOrigin}
 use Rattle.board_core.specs.Reached.{first_state, model_start}
@@ -14,14 +14,13 @@ use Rattle.cn_scheduler.specs.declared.plan.Plan.{Plan}
 use Rattle.cn_scheduler.specs.Point.{Point}
 use Rattle.cn_scheduler.specs.Chunks.{IsLawful, point_after}
 use Rattle.cn_runtime.specs.Planned.{IsPlanFor}
-use Rattle.cn_report.specs.Past.{past_of}
+use Rattle.recovery.specs.Past.{past_of}
 use Rattle.cn_report.specs.Whole.{report_text}
 use Rattle.same_program.specs.Same.{IsSame}
 use Rattle.catnap_top.specs.declared.files.ReplayFiles.{ReplayFiles}
 use Rattle.catnap_top.specs.Answer.{Answer}
 use Rattle.catnap_top.specs.Alike.{Agree, AreSameFiles}
 use Rattle.catnap_top.specs.Lives.{Life, Lives, first_point, reported, status_of}
-use Rattle.catnap_top.specs.OneLife.{LivesAreOne}
 use Rattle.catnap_top.specs.Replay.{Reports}
 use Rattle.catnap_top.proofs.Looks.{alike_by}
 
@@ -64,7 +63,7 @@ module _ (code : SameCode) (x y : ReplayFiles) (same : AreSameFiles x y) where
         committed = record {
           formed = is.committed.formed;
           slot_is = is.committed.slot_is;
-          rests = subst (λ pc. RestsAt y.program pc None) (sym is.first.pc) refl;
+          rests = subst (λ pc. RestsAt y.program pc None) (sym is.first.pc) tt;
           recorded = record {
             many = is.committed.recorded.many;
             entries_are = λ k e none. absurd (cc);
@@ -112,8 +111,9 @@ module _ (code : SameCode) (x y : ReplayFiles) (same : AreSameFiles x y) where
             life.state.tick life.state.stored life.end;
       }
 
-  pub reports_agree : LivesAreOne → (c e : Chosen) → c ≡ e → Agree (λ (a b : Answer). a ≡ b) (Reports x c) (Reports y e)
-  reports_agree one c e equal came also h k =
-      let life : h.life ≡ k.life = one y c h.life k.life (lives_same c h.life h.lives) (subst (λ (v : Chosen). Lives y v k.life) (sym equal) k.lives) in
+  -- where there is one life
+  pub reports_agree : (c e : Chosen) → ((a b : Life) → Lives y c a → Lives y c b → a ≡ b) → c ≡ e → Agree (λ (a b : Answer). a ≡ b) (Reports x c) (Reports y e)
+  reports_agree c e one equal came also h k =
+      let life : h.life ≡ k.life = one h.life k.life (lives_same c h.life h.lives) (subst (λ (v : Chosen). Lives y v k.life) (sym equal) k.lives) in
       alike_by (λ (a b : Answer). a ≡ b) (Ok (reported x c h.life)) came (Ok (reported y e k.life)) also h.came_is k.came_is
       (text_same c h.life ∙ ap (reported y c) life ∙ ap (λ (v : Chosen). reported y v k.life) equal)

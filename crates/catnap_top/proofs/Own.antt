@@ -8,7 +8,7 @@ use Rattle.catnap_top.specs.declared.fault.Table.TheVariants as table
 use Rattle.catnap_top.specs.declared.fault.NoChoice.TheVariants as none
 use Rattle.catnap_top.specs.Answer.{Answer, is_own}
 use Rattle.catnap_top.specs.Faults.{fault_answer}
-use Rattle.catnap_top.specs.Look.{Look, ComesTo, answer_of}
+use Rattle.catnap_top.specs.Look.{Look, answer_of}
 use Rattle.degradation.specs.declared.chosen.Chosen.{Chosen}
 use Rattle.cn_scheduler.specs.declared.engine.End.{End}
 use Rattle.cn_scheduler.specs.declared.engine.End.TheVariants.{TraceEnded, LogFull}

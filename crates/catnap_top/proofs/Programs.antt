@@ -1,5 +1,5 @@
 -- What programs of one source answer.
-use Rattle.std.proofs.Common.{◌≡◌, ℕ, zero, suc, ◌+◌, ◌/◌, ◌++◌, List, ◌∷◌, length, Option, refl, ap, sym, ◌∙◌}
+use Rattle.std.proofs.Common.{◌≡◌, ℕ, zero, suc, ◌++◌, List, ◌∷◌, length, Option, refl, ap, ◌∙◌}
 use Rattle.std.specs.Prelude.{slice_get, slice_index, slice_index_or}
 use Rattle.cat_program.specs.declared.headers.Event.{Event}
 use Rattle.cat_program.specs.declared.syntax.Stepped.{Stepped}
@@ -9,7 +9,8 @@ use Rattle.cat_machine.specs.Code.{code_of}
 use Rattle.cat_compile.specs.Listing.{listing_text}
 use Rattle.degradation.specs.declared.chosen.Chosen.{Chosen}
 use Rattle.feasibility.specs.Chosen.{no_load}
-use Rattle.cn_report.specs.Report.{in_turn, version_line, name_of, event_line, numbers_line, chosen_text}
+use Rattle.cn_base.specs.Texts.{in_turn}
+use Rattle.cn_report.specs.Report.{version_line, name_of, event_line, numbers_line, chosen_text}
 use Rattle.same_program.specs.Same.{IsSame}
 use Rattle.same_program.specs.Alike.{StateIsLike, StepIsLike, no_step, step}
 use Rattle.catnap_top.specs.declared.status.Status.TheVariants.{Done}

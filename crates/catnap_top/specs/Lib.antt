@@ -22,3 +22,4 @@ pub mod Reads
 pub mod Course
 pub mod Clauses
 pub mod OneLife
+pub mod Headline

@@ -1,5 +1,5 @@
 -- A program's life on a device: the one lawful timeline on the board that the files tell.
-use Rattle.std.specs.Prelude.{◌≡◌, ℕ, false, List}
+use Rattle.std.specs.Prelude.{◌≡◌, false, List}
 use Rattle.nv_memory.specs.declared.layout.Layout.{Layout}
 use Rattle.nv_memory.specs.Board.{State}
 use Rattle.recovery.specs.First.{IsFresh}
@@ -14,7 +14,7 @@ use Rattle.cn_scheduler.specs.Chunks.{Link, IsLawful, point_after}
 use Rattle.lawful_timeline.specs.Claims.{EndsAs, last_outcome}
 use Rattle.cn_runtime.specs.Planned.{IsPlanFor}
 use Rattle.lawful_timeline.specs.Starting.{first_work}
-use Rattle.cn_report.specs.Past.{past_of}
+use Rattle.recovery.specs.Past.{past_of}
 use Rattle.cn_report.specs.Whole.{report_text}
 use Rattle.catnap_top.specs.declared.files.ReplayFiles.{ReplayFiles}
 use Rattle.catnap_top.specs.declared.status.Status.{Status}

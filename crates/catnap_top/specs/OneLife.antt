@@ -1,9 +1,15 @@
 -- That files and versions call for one life.
-use Rattle.std.specs.Prelude.{◌≡◌}
+use Rattle.std.specs.Prelude.{◌≡◌, ℕ, List, Ok}
+use Rattle.degradation.specs.Choice.{supply_of}
 use Rattle.degradation.specs.declared.chosen.Chosen.{Chosen}
 use Rattle.catnap_top.specs.declared.files.ReplayFiles.{ReplayFiles}
+use Rattle.catnap_top.specs.Files.{files_in}
 use Rattle.catnap_top.specs.Lives.{Life, Lives}
+use Rattle.catnap_top.specs.Served.{versions_in}
 
--- the lawful timeline on a board whose trace, failures and device are known is one
+-- Where bytes tell the files of a replay, and the device can serve the events in some versions, the lawful timeline on the board that
+-- follows is one.
 abbrev pub LivesAreOne : Type 0
-LivesAreOne = (files : ReplayFiles) (chosen : Chosen) (a b : Life) → Lives files chosen a → Lives files chosen b → a ≡ b
+LivesAreOne =
+    (source profile trace arrivals failures : List ℕ) (files : ReplayFiles) (chosen : Chosen) (one other : Life) → files_in source profile trace arrivals failures (Ok files)
+    → versions_in files.program files.device (supply_of files.device) (Ok chosen) → Lives files chosen one → Lives files chosen other → one ≡ other

@@ -12,7 +12,7 @@ use Rattle.checkpoint_slots.specs.Slot.{IsMadeFor}
 use Rattle.degradation.specs.Choice.{Suits}
 use Rattle.board_core.specs.Reached.{IsReached, first_state, model_start}
 use Rattle.board_core.specs.ModelBoardState.{origin_of, state_of}
-use Rattle.cn_report.specs.Past.{past_of}
+use Rattle.recovery.specs.Past.{past_of}
 use Rattle.cn_report.specs.Whole.{report_text, IsReplayed}
 use Rattle.catnap_top.specs.declared.replay.Replayed.{Replayed}
 use Rattle.catnap_top.specs.Answer.{Answer}

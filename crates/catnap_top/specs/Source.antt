@@ -9,7 +9,7 @@ use Rattle.cat_syntax.specs.declared.fault.SyntaxFault.{SyntaxFault}
 use Rattle.cat_syntax.specs.Spells.{Spells, IsFault}
 use Rattle.cat_conditions.specs.declared.fault.TypeFault.{TypeFault}
 use Rattle.cat_conditions.specs.Pieces.{pieces}
-use Rattle.cat_conditions.specs.Conditions.{IsChecked, IsFault as IsTypeFault}
+use Rattle.cat_conditions.specs.Conditions.{MeetsConditions, IsFault as IsTypeFault}
 use Rattle.cat_program.specs.Checked.{Checked}
 use Rattle.cat_resolve.specs.Program.{IsProgramOf}
 use Rattle.catnap_top.specs.declared.refusal.SourceFault.{SourceFault}
@@ -30,7 +30,7 @@ pub record IsSourceOf (source : List ℕ) (p : Checked) : Type 0 where
   pub lexed : Lexes 0 source tokens None
   pub tree : Tree
   pub spelled : Spells (lexemes source tokens) tree.items
-  pub checked : IsChecked tree
+  pub checked : MeetsConditions tree
   pub program : IsProgramOf tree p
 
 -- A source that is refused for this: the first in this order that applies.

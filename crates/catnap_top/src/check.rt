@@ -1,10 +1,11 @@
 //! `check SRC DEVICE`: the versions in which a device can serve a source's events.
 
+ghost use Rattle.std.specs.Prelude.{IfOk};
 ghost use Rattle.cn_base.specs.Causes.{HasCause};
 ghost use Rattle.cn_base.specs.Writing.{Writes};
 ghost use Rattle.catnap_top.specs.Check.{checked, checking};
 ghost use Rattle.catnap_top.specs.Look.{LooksAs};
-ghost use Rattle.catnap_top.specs.Reply.{reply_answer};
+ghost use Rattle.catnap_top.specs.Reply.{CanBeWritten, reply_answer};
 
 use crate::profile::device_of;
 use crate::reply::Reply;
@@ -26,7 +27,8 @@ pub fn write_check<K: Sink>(sink: &mut K, selected: &Selected) -> Result<(), Wri
 
 /// Prepares the choice of versions. It takes all memory of the command.
 pub fn prepare_check(alloc: Global, source: &[u8], profile: &[u8]) -> Result<Reply, Stop>
-    ensures { LooksAs reply_answer (checking source.now profile.now) result }
+    ensures looks { LooksAs reply_answer (checking source.now profile.now) result }
+    ensures written { IfOk result CanBeWritten }
 {
     let program = program_of(alloc, source)?;
     let device = device_of(alloc, profile)?;

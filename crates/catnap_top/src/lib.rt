@@ -5,6 +5,7 @@ mod check;
 mod compiled;
 mod fault;
 mod files;
+mod headline;
 mod line;
 mod list;
 mod one;
@@ -26,6 +27,7 @@ mod top;
 mod versions;
 mod words;
 
-pub use one::one_answer;
+pub use headline::replays_show_runs;
+pub use one::{lives_are_one, one_answer};
 pub use status::Status;
 pub use top::catnap;

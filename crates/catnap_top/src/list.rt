@@ -1,10 +1,11 @@
 //! `list SRC`: the listing of a source's code.
 
+ghost use Rattle.std.specs.Prelude.{IfOk};
 ghost use Rattle.cn_base.specs.Causes.{HasCause};
 ghost use Rattle.cn_base.specs.Writing.{Writes};
 ghost use Rattle.catnap_top.specs.Look.{LooksAs};
 ghost use Rattle.catnap_top.specs.Listed.{listed, listing};
-ghost use Rattle.catnap_top.specs.Reply.{reply_answer};
+ghost use Rattle.catnap_top.specs.Reply.{CanBeWritten, reply_answer};
 
 use crate::compiled::Compiled;
 use crate::reply::Reply;
@@ -24,7 +25,8 @@ pub fn write_list<K: Sink>(sink: &mut K, compiled: &Compiled) -> Result<(), Writ
 
 /// Prepares the listing of a source. It takes all memory of the command.
 pub fn prepare_list(alloc: Global, source: &[u8]) -> Result<Reply, Stop>
-    ensures { LooksAs reply_answer (listing source.now) result }
+    ensures looks { LooksAs reply_answer (listing source.now) result }
+    ensures written { IfOk result CanBeWritten }
 {
     let program = program_of(alloc, source)?;
     let code = compile(alloc, &program)?;

@@ -6,17 +6,24 @@ ghost use Rattle.cat_program.specs.Checked.{Checked};
 ghost use Rattle.nv_memory.specs.declared.device.Device.{Device};
 ghost use Rattle.catnap_top.specs.OneLife.{LivesAreOne};
 ghost use Rattle.catnap_top.specs.declared.words.Form.{Form as TheForm};
-ghost use Rattle.catnap_top.specs.declared.words.Form.TheVariants.{Replay};
 ghost use Rattle.catnap_top.specs.Answer.{Answer};
 ghost use Rattle.catnap_top.specs.Files.{IsSource, IsProfile};
 ghost use Rattle.catnap_top.specs.Served.{Serves};
 ghost use Rattle.degradation.specs.declared.supply.Supply.{Supply};
 ghost use Rattle.catnap_top.specs.Reply.{CallsFor};
 
+use board_core::rules_decide;
 use cat_resolve::checked_law;
 use cat_syntax::one_tree;
 use cat_tokens::one_lexing;
+use cn_runtime::{plans_are_planned, plans_are_set_up};
+use degradation::choices_suit;
 use device_profile::one_device_law;
+use event_arrivals::told_arrivals_are_sound;
+use lawful_timeline::starts_belong;
+use nv_memory::layouts_are_numbers;
+use one_timeline::timelines_end_alike;
+use recovery::first_image_is_one;
 use same_program::{one_choice_law, same_code_law, same_program_law, same_steps_law};
 
 /// A source stands for programs that say the same, or is refused for one kind.
@@ -43,14 +50,31 @@ fn one_choice()
     one_choice_law();
 }
 
+/// Where bytes tell the files of a replay, and the device can serve the events in some versions, the life that follows is one.
+pub fn lives_are_one()
+    ensures { LivesAreOne }
+{
+    checked_law();
+    told_arrivals_are_sound();
+    choices_suit();
+    plans_are_set_up();
+    plans_are_planned();
+    layouts_are_numbers();
+    first_image_is_one();
+    rules_decide();
+    starts_belong();
+    timelines_end_alike();
+}
+
 /// What a form of words calls for over the bytes of its files is one answer: two implementations that both give what is called
-/// for give the same. Of a replay this is said where its life is one.
+/// for give the same.
 pub fn one_answer()
-    ensures { (form : TheForm) (files : List (List ℕ)) (a b : Answer) → (form ≡ Replay → LivesAreOne) → CallsFor form files a → CallsFor form files b → a ≡ b }
+    ensures { (form : TheForm) (files : List (List ℕ)) (a b : Answer) → CallsFor form files a → CallsFor form files b → a ≡ b }
 {
     one_source();
     one_profile();
     one_choice();
+    lives_are_one();
     same_steps_law();
     same_code_law();
 }

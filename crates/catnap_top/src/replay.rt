@@ -126,6 +126,7 @@ fn run_out(
 ) -> Result<Replayed, NoMemory>
     requires set_up { IsSetUp prepared.program prepared.plan }
     requires first { IsFirst prepared.program prepared.plan.layout prepared.engine }
+    requires device { prepared.device ≡ device }
     ensures { IfOk result (HasEnded prepared trace failures device) }
 {
     match begin(alloc, &prepared, trace, failures, device) {

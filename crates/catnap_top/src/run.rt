@@ -1,6 +1,6 @@
 //! `run SRC STEPS`: what the first steps of the source's tasks put out.
 
-ghost use Rattle.std.specs.Prelude.{◌≡◌, true, false};
+ghost use Rattle.std.specs.Prelude.{◌≡◌, true, false, IfOk};
 ghost use Rattle.cat_program.specs.declared.syntax.Stepped.TheVariants.{None};
 ghost use Rattle.cn_base.specs.Causes.{HasCause};
 ghost use Rattle.cn_base.specs.PageWords.{AddsTo, sink_in, sink_name};
@@ -10,7 +10,7 @@ ghost use Rattle.cat_eval.specs.Cursor.{Fits, state_of};
 ghost use Rattle.catnap_top.specs.Look.{LooksAs};
 ghost use Rattle.catnap_top.specs.Run.{answers, out_line, run_text, running, steps_line};
 ghost use Rattle.catnap_top.specs.ReadyValue.{ready_answer};
-ghost use Rattle.catnap_top.specs.Reply.{reply_answer};
+ghost use Rattle.catnap_top.specs.Reply.{CanBeWritten, reply_answer};
 
 use crate::ready::Ready;
 use crate::reply::Reply;
@@ -109,7 +109,8 @@ pub fn write_run<K: Sink>(sink: &mut K, ready: Ready) -> Result<(), WriteFail>
 
 /// Prepares the run of so many steps of a source. It takes all memory of the command.
 pub fn prepare_run(alloc: Global, steps: u32, source: &[u8]) -> Result<Reply, Stop>
-    ensures { LooksAs reply_answer (running steps source.now) result }
+    ensures looks { LooksAs reply_answer (running steps source.now) result }
+    ensures written { IfOk result CanBeWritten }
 {
     let program = program_of(alloc, source)?;
     let state = State::first(alloc, &program)?;

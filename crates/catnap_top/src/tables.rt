@@ -7,7 +7,7 @@ ghost use Rattle.catnap_top.specs.Look.{Looks};
 use crate::fault::{Fault, Table};
 use crate::stop::Stop;
 use cat_program::Program;
-use event_arrivals::{Arrivals, ArrivalsFault, arrivals};
+use event_arrivals::{Arrivals, ArrivalsFault, arrivals, told_arrivals_are_sound};
 use harvest_trace::{Fails, FailsFault, Trace, TraceFault, fails, trace};
 use std::alloc::Global;
 
@@ -35,6 +35,7 @@ pub fn arrivals_of(
     ensures events { IfOk result (λ found. length found.timings ≡ length program.now.events) }
 {
     let _checked = program.bodies();
+    told_arrivals_are_sound();
     match arrivals(alloc, program, trace, bytes) {
         Ok(arrivals) => Ok(arrivals),
         Err(ArrivalsFault::BadArrivals(row, kind)) => {

@@ -3,8 +3,10 @@ ghost use Rattle.catnap_top.specs.Words.{texts};
 ghost use Rattle.catnap_top.specs.Reply.{reply_answer, CanBeWritten};
 ghost use Rattle.catnap_top.specs.Course.{outside, Answers, Ends};
 ghost use Rattle.catnap_top.specs.Clauses.{HasAsked, HasCauses, IsComplete};
+ghost use Rattle.catnap_top.specs.Headline.{HasHeadline};
 
 use crate::Status;
+use crate::headline::replays_show_runs;
 use crate::reading::{ReadStop, read_files};
 use crate::reply::{Reply, reply_to};
 use crate::words::{form_in, names_in};
@@ -101,8 +103,14 @@ pub fn catnap<I: Inputs, K: Sink>(
         (outside (I.asked inputs.old) (I.faults inputs.old) (K.written sink.old) (K.faults sink.old))
         (outside (I.asked inputs.new) (I.faults inputs.new) (K.written sink.new) (K.faults sink.new))
         result }
+    // The report of a replay shows one run of the program that never loses power.
+    ensures headline { HasHeadline (texts words.now) (I.files inputs.old)
+        (outside (I.asked inputs.old) (I.faults inputs.old) (K.written sink.old) (K.faults sink.old))
+        (outside (I.asked inputs.new) (I.faults inputs.new) (K.written sink.new) (K.faults sink.new))
+        result }
     // No file was changed.
     ensures files { I.files inputs.new ≡ I.files inputs.old }
 {
+    replays_show_runs();
     respond(alloc, words, inputs, sink)
 }

@@ -3,9 +3,11 @@ pub mod Reading
 pub mod Writing
 pub mod Memory
 pub mod Lines
+pub mod Texts
 pub mod Pages
 pub mod PageSums
 pub mod PageWords
+pub mod TextSums
 pub mod Sums
 pub mod Nests
 pub mod Versions

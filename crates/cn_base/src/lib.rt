@@ -4,6 +4,7 @@
 
 mod fill;
 mod inputs;
+mod laws;
 mod lines;
 mod list;
 mod memory;
@@ -17,6 +18,7 @@ pub mod tree;
 
 pub use fill::Fill;
 pub use inputs::{Inputs, ReadFail};
+pub use laws::nests_law;
 pub use lines::{Piece, put_line};
 pub use list::List;
 pub use memory::{AskedRead, File, MemInputs, MemSink, SilentInputs, SilentSink};

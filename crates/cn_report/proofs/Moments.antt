@@ -16,7 +16,7 @@ use Rattle.nv_memory.specs.Board.{State, Start, IsSound, image_after, image_by}
 use Rattle.checkpoint_slots.specs.Image.{committed_slot}
 use Rattle.cn_report.specs.declared.heads.Heads.{Heads}
 use Rattle.cn_report.specs.declared.cursor.Cursor.{Cursor}
-use Rattle.cn_report.specs.Past.{Past, past_of, image_at, committed_at, last_image, last_slot, end_of, has_record, commit_of, done_at}
+use Rattle.recovery.specs.Past.{Past, past_of, image_at, committed_at, last_image, last_slot, end_of, has_record, commit_of, done_at}
 use Rattle.cn_report.specs.Story.{entry_line, moment_line}
 use Rattle.cn_report.specs.Windows.{AreHeads}
 use Rattle.cn_report.specs.Passed.{HasPassed, IsBefore}
@@ -67,15 +67,15 @@ starts past h heads =
       ended = λ k is. absurd (omega (arith, is));
     }
 
-pub goes_on : (past : Past) (c : Cursor) (entry : Entry) (h : Heads) → HasPassed past c → slice_get past.timeline c.passed ≡ Some entry
-    → AreHeads past.layout (image_after entry.op (image_at past c.passed)) h → HasPassed past (record { passed = c.passed + 1; heads = h; ended = end_of entry })
-goes_on past c entry h passed is heads =
+pub goes_on : (past : Past) (k : ℕ) (entry : Entry) (h : Heads) → slice_get past.timeline k ≡ Some entry
+    → AreHeads past.layout (image_after entry.op (image_at past k)) h → HasPassed past (record { passed = k + 1; heads = h; ended = end_of entry })
+goes_on past k entry h is heads =
     record {
-      within = omega (arith, slice_get_within past.timeline c.passed entry is);
-      heads = heads-more past c.passed entry h is heads;
-      ended = λ k same.
-          let here : c.passed ≡ k = omega (arith, same) in
-          sym (ap (λ (o : Option Entry). option_map_or end_of o 0) (subst (λ (j : ℕ). slice_get past.timeline j ≡ Some entry) here is));
+      within = omega (arith, slice_get_within past.timeline k entry is);
+      heads = heads-more past k entry h is heads;
+      ended = λ j same.
+          let here : k ≡ j = omega (arith, same) in
+          sym (ap (λ (o : Option Entry). option_map_or end_of o 0) (subst (λ (i : ℕ). slice_get past.timeline i ≡ Some entry) here is));
     }
 
 -- where the record is committed at last, there are more entries as long as it isn't

@@ -20,7 +20,7 @@ use Rattle.std.proofs.lemmas.Option.{same_Some}
 use Rattle.cat_program.specs.declared.headers.Event.{Event}
 use Rattle.event_arrivals.specs.Arrivals.{Lists}
 use Rattle.cn_report.specs.Outcome.{log_line, record_line}
-use Rattle.cn_report.specs.Past.{Past, past_of, done_at, committed_at, last_image, last_slot, entry_in}
+use Rattle.recovery.specs.Past.{Past, past_of, done_at, committed_at, last_image, last_slot, entry_in}
 use Rattle.cn_report.specs.Whole.{IsReplayed}
 use Rattle.cn_report.proofs.Written.{length-written}
 use Rattle.cn_report.proofs.Moments.{committed-is, image-none, image-last, sound-last}

@@ -1,54 +1,16 @@
 -- Texts of many pieces.
-use Rattle.std.proofs.Common.{◌≡◌, ℕ, zero, suc, ◌+◌, ◌≤◌, List, [], ◌∷◌, ◌++◌, length, map, take, get_or, Option, Some, Result, subst, refl, sym, ap, ◌∙◌, arith, append_assoc, append-nil}
-use Rattle.std.specs.List.{flat_map, range_with_len}
+use Rattle.std.proofs.Common.{◌≡◌, ℕ, zero, suc, ◌+◌, ◌≤◌, List, [], ◌∷◌, ◌++◌, length, map, Some, subst, refl, sym, ap, ◌∙◌, arith, append_assoc, append-nil}
+use Rattle.std.specs.List.{range_with_len}
 use Rattle.std.specs.Prelude.{slice_get, codes, decimal}
-use Rattle.std.specs.Io.KnownBytes.{append_known}
-use Rattle.std.proofs.lemmas.Option.{slice_get_within, get_or_from_slice_get}
-use Rattle.std.proofs.lemmas.List.{take_more}
-use Rattle.std.proofs.lemmas.Grind.{flat_map-append}
-use Rattle.cn_base.specs.Writing.{IsCut, Writes}
-use Rattle.cn_base.specs.Sums.{cut_amid, cut_before, known_on}
 use Rattle.cat_program.specs.declared.headers.Variable.{Variable}
 use Rattle.cat_program.specs.declared.headers.Event.{Event}
 use Rattle.cat_program.specs.Declares.{EachEventIs, IsLaidOut}
 use Rattle.cat_program.specs.Checked.{Checked, IsChecked}
 use Rattle.degradation.specs.declared.chosen.Chosen.{Chosen}
 use Rattle.cn_scheduler.specs.declared.engine.End.{End}
-use Rattle.cn_report.specs.Report.{line, in_turn, header_line, numbers_line, choice_text, chosen_text}
+use Rattle.cn_base.specs.Texts.{line, in_turn}
+use Rattle.cn_report.specs.Report.{header_line, numbers_line, choice_text, chosen_text}
 use Rattle.cn_report.specs.Outcome.{end_word, end_line}
-use Rattle.cn_report.proofs.Lines.{writes_behind}
-
--- what stands before item i, its own piece, and what stands behind it
-record Parts {A : Type 0} (f : A → List ℕ) (xs : List A) (i : ℕ) (x : A) : Type 0 where
-  rest : List ℕ
-  all : flat_map f (take i xs) ++ (f x ++ rest) ≡ flat_map f xs
-
-parts : {A : Type 0} (f : A → List ℕ) (xs : List A) (i : ℕ) (x : A) → slice_get xs i ≡ Some x → Parts f xs i x
-parts f [] i x is = cc
-parts f (y ∷ ys) zero x is =
-    let same : y ≡ x = cc in
-    record { rest = flat_map f ys; all = ap (λ z. f z ++ flat_map f ys) (sym same) }
-parts f (y ∷ ys) (suc i) x is =
-    let p = parts f ys i x is in
-    record { rest = p.rest; all = append_assoc (f y) (flat_map f (take i ys)) (f x ++ p.rest) ∙ ap (λ t. f y ++ t) p.all }
-
-pub cut_flat : {A : Type 0} (f : A → List ℕ) (xs : List A) (i : ℕ) (x : A) (w0 w1 w2 : Option (List ℕ)) → slice_get xs i ≡ Some x
-    → w1 ≡ append_known w0 (flat_map f (take i xs)) → IsCut w1 w2 (f x) → IsCut w0 w2 (flat_map f xs)
-cut_flat f xs i x w0 w1 w2 is e cut =
-    let p = parts f xs i x is in
-    cut_amid w0 w1 w2 (flat_map f (take i xs)) (f x) p.rest (flat_map f xs) e p.all cut
-
--- one item more
-pub flat_more : {A : Type 0} (f : A → List ℕ) (xs : List A) (i : ℕ) (x : A) → slice_get xs i ≡ Some x → flat_map f (take (i + 1) xs) ≡ flat_map f (take i xs) ++ f x
-flat_more f xs i x is =
-    ap (flat_map f) (take_more xs i x (slice_get_within xs i x is))
-    ∙ flat_map-append f (take i xs) (get_or xs i x ∷ [])
-    ∙ ap (λ t. flat_map f (take i xs) ++ t) (append-nil (f (get_or xs i x)) ∙ ap f (get_or_from_slice_get xs i x x is))
-
-pub known_flat : {A : Type 0} (f : A → List ℕ) (xs : List A) (i : ℕ) (x : A) (w0 w1 w2 : Option (List ℕ)) → slice_get xs i ≡ Some x
-    → w1 ≡ append_known w0 (flat_map f (take i xs)) → w2 ≡ append_known w1 (f x) → w2 ≡ append_known w0 (flat_map f (take (i + 1) xs))
-known_flat f xs i x w0 w1 w2 is e more =
-    known_on w0 w1 w2 (flat_map f (take i xs)) (f x) e more ∙ ap (λ t. append_known w0 t) (sym (flat_more f xs i x is))
 
 -- an event has a header
 pub headers_count : (headers : List Event) (versions : List (List ℕ)) → EachEventIs headers versions → length headers ≡ length versions
@@ -56,15 +18,6 @@ headers_count [] [] each = refl
 headers_count [] (v ∷ vs) each = absurd each
 headers_count (h ∷ hs) [] each = absurd each
 headers_count (h ∷ hs) (v ∷ vs) each = ap suc (headers_count hs vs each.1)
-
--- the first piece of a text was cut
-pub cut_first : (w0 w1 : Option (List ℕ)) (piece rest text : List ℕ) → piece ++ rest ≡ text → IsCut w0 w1 piece → IsCut w0 w1 text
-cut_first w0 w1 piece rest text all cut = subst (λ t. IsCut w0 w1 t) all (cut_before w0 w1 piece rest cut)
-
--- its last piece was written, or cut
-pub writes_last : {T E : Type 0} (r : Result T E) (w0 w1 w2 : Option (List ℕ)) (front piece text : List ℕ) → front ++ piece ≡ text → w1 ≡ append_known w0 front
-    → Writes w1 w2 piece r → Writes w0 w2 text r
-writes_last r w0 w1 w2 front piece text all e h = subst (λ t. Writes w0 w2 t r) all (writes_behind r w0 w1 w2 front piece e h)
 
 -- the text of one number more, its first one apart
 in_turn-first : (f : ℕ → List ℕ) (n : ℕ) → in_turn f (suc n) ≡ f 0 ++ in_turn (λ k. f (suc k)) n

@@ -5,7 +5,7 @@ use Rattle.cat_program.specs.declared.headers.Event.{Event}
 use Rattle.cat_program.specs.declared.outs.LogEntry.{LogEntry}
 use Rattle.cat_program.specs.declared.outs.LogEntry.TheVariants.{Out, Ran}
 use Rattle.event_arrivals.specs.Arrivals.{Lists}
-use Rattle.cn_report.specs.Past.{Past, last_slot, entry_in, done_at}
+use Rattle.recovery.specs.Past.{Past, last_slot, entry_in, done_at}
 use Rattle.cn_report.specs.Outcome.{due_at}
 
 abbrev pub is_out : LogEntry → Bool

@@ -1,7 +1,6 @@
 pub mod Report
 pub mod Bytes
 pub mod Windows
-pub mod Past
 pub mod Passed
 pub mod Story
 pub mod Outcome

@@ -12,8 +12,9 @@ use Rattle.checkpoint_slots.specs.declared.slot.Slot.{Slot}
 use Rattle.checkpoint_slots.specs.Slot.{variables_of}
 use Rattle.cn_scheduler.specs.declared.engine.End.{End}
 use Rattle.cn_scheduler.specs.declared.engine.End.TheVariants.{TraceEnded, LogFull}
-use Rattle.cn_report.specs.Report.{line, in_turn, name_of}
-use Rattle.cn_report.specs.Past.{Past, last_slot, entry_in, done_at}
+use Rattle.cn_base.specs.Texts.{line, in_turn}
+use Rattle.cn_report.specs.Report.{name_of}
+use Rattle.recovery.specs.Past.{Past, last_slot, entry_in, done_at}
 
 -- ---- the log
 

@@ -2,7 +2,7 @@
 use Rattle.std.specs.Prelude.{◌≡◌, ℕ, ◌+◌, ◌≤◌, ◌<◌, length, slice_get}
 use Rattle.std.specs.Option.{option_map_or}
 use Rattle.cn_report.specs.declared.cursor.Cursor.{Cursor}
-use Rattle.cn_report.specs.Past.{Past, image_at, committed_at, end_of}
+use Rattle.recovery.specs.Past.{Past, image_at, committed_at, end_of}
 use Rattle.cn_report.specs.Windows.{AreHeads}
 
 -- it holds the heads of the image where it is, and the end of the entry before it

@@ -1,5 +1,6 @@
 -- The text of a choice of versions, and the line that says why there is none.
-use Rattle.std.specs.Prelude.{ℕ, zero, suc, List, [], ◌∷◌, ◌++◌, length, Option, Some, None, slice_get, slice_index, slice_index_or, codes, decimal}
+use Rattle.std.specs.Prelude.{ℕ, List, [], ◌∷◌, ◌++◌, length, Option, Some, None, slice_get, slice_index, slice_index_or, codes, decimal}
+use Rattle.cn_base.specs.Texts.{line, in_turn}
 use Rattle.cat_program.specs.declared.headers.Event.{Event}
 use Rattle.cat_program.specs.Checked.{Checked}
 use Rattle.demand_core.specs.declared.Load.{Load}
@@ -8,17 +9,6 @@ use Rattle.feasibility.specs.declared.decide.Verdict.{Verdict}
 use Rattle.feasibility.specs.declared.decide.Verdict.TheVariants.{Yes, F1, F2, F3}
 use Rattle.feasibility.specs.Chosen.{no_load}
 use Rattle.degradation.specs.declared.chosen.Chosen.{Chosen}
-
--- words with one space between them, and the end of the line
-abbrev pub line : List (List ℕ) → List ℕ
-line [] = codes "\n"
-line (word ∷ []) = word ++ codes "\n"
-line (word ∷ words) = word ++ (codes " " ++ line words)
-
--- the texts of 0, 1 and so on below n, one after the other
-abbrev pub in_turn : (ℕ → List ℕ) → ℕ → List ℕ
-in_turn text zero = []
-in_turn text (suc n) = in_turn text n ++ text n
 
 -- ---- a choice
 

@@ -8,8 +8,9 @@ use Rattle.nv_memory.specs.declared.entry.Op.{Op}
 use Rattle.nv_memory.specs.declared.entry.Op.TheVariants.{Instr, Emit, Write, Wake, Sleep}
 use Rattle.nv_memory.specs.declared.entry.Entry.{Entry}
 use Rattle.checkpoint_slots.specs.declared.slot.Slot.{Slot}
-use Rattle.cn_report.specs.Report.{line, in_turn, name_of}
-use Rattle.cn_report.specs.Past.{Past, committed_at, end_of}
+use Rattle.cn_base.specs.Texts.{line, in_turn}
+use Rattle.cn_report.specs.Report.{name_of}
+use Rattle.recovery.specs.Past.{Past, committed_at, end_of}
 
 abbrev pub dropped_line : List Event → Dropped → List ℕ
 dropped_line headers dropped = line (codes "dropped" ∷ decimal dropped.tick ∷ name_of (slice_get headers dropped.event) ∷ [])

@@ -3,7 +3,7 @@ use Rattle.std.specs.Prelude.{List, length, count_by}
 use Rattle.cat_program.specs.declared.headers.Event.{Event}
 use Rattle.event_arrivals.specs.Arrivals.{Lists}
 use Rattle.cn_report.specs.declared.counts.Tally.{Tally}
-use Rattle.cn_report.specs.Past.{Past}
+use Rattle.recovery.specs.Past.{Past}
 use Rattle.cn_report.specs.Counts.{outs_in, ran_in, met_in}
 
 abbrev pub tally_of : List Event → Lists → Past → Tally

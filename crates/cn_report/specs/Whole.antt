@@ -10,7 +10,7 @@ use Rattle.recovery.specs.Committed.{Committed, IsCommitted}
 use Rattle.recovery.specs.First.{IsFresh}
 use Rattle.cn_scheduler.specs.declared.engine.End.{End}
 use Rattle.cn_report.specs.Report.{choice_text}
-use Rattle.cn_report.specs.Past.{Past, last_image, last_slot}
+use Rattle.recovery.specs.Past.{Past, last_image, last_slot}
 use Rattle.cn_report.specs.Story.{dropped_text, story_text}
 use Rattle.cn_report.specs.Outcome.{log_text, end_line, variables_text}
 

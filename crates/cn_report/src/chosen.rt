@@ -5,7 +5,8 @@ ghost use Rattle.cn_base.specs.Causes.{HasCause};
 ghost use Rattle.cn_base.specs.PageWords.{AddsTo, sink_in, sink_name};
 ghost use Rattle.cn_base.specs.Writing.{Writes};
 ghost use Rattle.degradation.specs.Choice.{Suits};
-ghost use Rattle.cn_report.specs.Report.{in_turn, version_line, numbers_line, event_line, chosen_text};
+ghost use Rattle.cn_base.specs.Texts.{in_turn};
+ghost use Rattle.cn_report.specs.Report.{version_line, numbers_line, event_line, chosen_text};
 
 use cat_program::Program;
 use cn_base::{Page, Piece, Sink, WriteFail};

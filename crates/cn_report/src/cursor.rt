@@ -1,9 +1,10 @@
 //! When the records of the log were committed.
 
-ghost use Rattle.std.specs.Prelude.{◌≡◌, ◌+◌, ◌<◌, ◌≤◌, length};
-ghost use Rattle.cn_report.specs.Past.{past_of, committed_at, last_slot, done_at};
+ghost use Rattle.std.specs.Prelude.{◌≡◌, ◌<◌, ◌≤◌, ℕ, length};
+ghost use Rattle.recovery.specs.Past.{past_of, committed_at, last_slot, done_at};
 
 use crate::heads::Heads;
+use crate::resting::last_asleep;
 use crate::story::ended;
 use nv_memory::{Board, Layout};
 
@@ -31,17 +32,19 @@ impl Cursor {
         }
     }
 
-    // Passes one entry.
+    // Passes one entry, or a run of sleep, in which nothing is committed.
     fn pass<B: Board>(&mut self, layout: &Layout, board: &B)
         requires more { self.old.passed < length (B.state board.now).timeline }
         requires passed { HasPassed (past_of layout.now (B.start (B.origin board.now)) (B.state board.now)) self.old }
-        ensures one { self.new.passed ≡ self.old.passed + 1 }
+        ensures later { self.old.passed < self.new.passed }
+        ensures quiet { (n : ℕ) → self.old.passed ≤ n → n < self.new.passed → committed_at (past_of layout.now (B.start (B.origin board.now)) (B.state board.now)) n ≡ committed_at (past_of layout.now (B.start (B.origin board.now)) (B.state board.now)) self.old.passed }
         ensures passed { HasPassed (past_of layout.now (B.start (B.origin board.now)) (B.state board.now)) self.new }
     {
-        let entry = board.entry(self.passed);
+        let last = last_asleep(board, self.passed);
+        let entry = board.entry(last);
         self.heads.follow(layout, &entry.op);
         self.ended = ended(&entry);
-        self.passed += 1;
+        self.passed = last + 1;
     }
 
     /// The tick at which the first entry ended after which the record at a place is committed. Nothing that lies before the

@@ -3,7 +3,8 @@
 ghost use Rattle.std.specs.Prelude.{◌∷◌, [], codes};
 ghost use Rattle.cn_base.specs.Causes.{HasCause};
 ghost use Rattle.cn_base.specs.Writing.{Writes};
-ghost use Rattle.cn_report.specs.Report.{line, window_line, rejected_line};
+ghost use Rattle.cn_base.specs.Texts.{line};
+ghost use Rattle.cn_report.specs.Report.{window_line, rejected_line};
 
 use cn_base::{Piece, Sink, WriteFail, put, put_line};
 use feasibility::Verdict;

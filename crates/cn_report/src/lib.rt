@@ -8,6 +8,7 @@ mod fault;
 mod heads;
 mod log;
 mod report;
+mod resting;
 mod shadow;
 mod story;
 mod tallying;

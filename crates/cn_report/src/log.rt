@@ -2,10 +2,10 @@
 
 ghost use Rattle.std.specs.Prelude.{◌≡◌, ◌<◌, length};
 ghost use Rattle.cn_base.specs.Causes.{HasCause};
-ghost use Rattle.cn_base.specs.Writing.{Writes};
+ghost use Rattle.cn_base.specs.PageWords.{AddsTo, sink_in, sink_name};
 ghost use Rattle.nv_memory.specs.Board.{IsSound};
 ghost use Rattle.nv_log.specs.Record.{IsOf};
-ghost use Rattle.cn_report.specs.Past.{past_of, last_slot, entry_in, done_at};
+ghost use Rattle.recovery.specs.Past.{past_of, last_slot, entry_in, done_at};
 ghost use Rattle.cn_report.specs.Passed.{HasPassed, IsBefore};
 ghost use Rattle.cn_report.specs.Outcome.{arrived_at, due_at, out_line, ran_line, word_of, log_line, log_text};
 ghost use Rattle.cn_report.specs.Windows.{AreHeads};
@@ -15,25 +15,23 @@ use crate::cursor::Cursor;
 use crate::heads::Heads;
 use crate::story::event_name;
 use cat_program::{LogEntry, Program};
-use cn_base::{Piece, Sink, WriteFail, put_line};
+use cn_base::{Page, Piece, Sink, WriteFail};
 use event_arrivals::Arrivals;
 use nv_log::{entry_at, records_are_read_again};
 use nv_memory::{Board, Layout};
 
-fn put_out<K: Sink>(sink: &mut K, channel: u8, value: i32) -> Result<(), WriteFail>
-    ensures text { Writes (K.written sink.old) (K.written sink.new) (out_line channel value) result }
-    ensures cause { HasCause (K.faults sink.old) (K.faults sink.new) result }
+fn add_out<K: Sink>(page: &mut Page<'_, K>, channel: u8, value: i32) -> Result<(), WriteFail>
+    ensures same_sink { sink_name page.new ≡ sink_name page.old }
+    ensures text { AddsTo K.written page.old page.new (out_line channel value) result }
+    ensures cause { HasCause (K.faults (sink_in page.old)) (K.faults (sink_in page.new)) result }
 {
-    put_line(
-        sink,
-        &[
-            Piece::Text(b"out "),
-            Piece::Number(i128::from(channel)),
-            Piece::Text(b" "),
-            Piece::Number(i128::from(value)),
-            Piece::Text(b"\n"),
-        ],
-    )
+    page.line(&[
+        Piece::Text(b"out "),
+        Piece::Number(i128::from(channel)),
+        Piece::Text(b" "),
+        Piece::Number(i128::from(value)),
+        Piece::Text(b"\n"),
+    ])
 }
 
 /// An event that ran: which arrival of it in which version, and when it arrived, started and was done.
@@ -53,35 +51,33 @@ fn word(met: bool) -> &'static [u8]
     if met { b"met" } else { b"late" }
 }
 
-fn put_ran_line<'a, K: Sink>(
-    sink: &mut K,
+fn add_ran_line<'a, K: Sink>(
+    page: &mut Page<'_, K>,
     name: &'a [u8],
     run: Run,
     word: &'a [u8],
 ) -> Result<(), WriteFail>
-    ensures text { Writes (K.written sink.old) (K.written sink.new) (ran_line name.now run.index run.version run.arrived run.started run.done word.now) result }
-    ensures cause { HasCause (K.faults sink.old) (K.faults sink.new) result }
+    ensures same_sink { sink_name page.new ≡ sink_name page.old }
+    ensures text { AddsTo K.written page.old page.new (ran_line name.now run.index run.version run.arrived run.started run.done word.now) result }
+    ensures cause { HasCause (K.faults (sink_in page.old)) (K.faults (sink_in page.new)) result }
 {
-    put_line(
-        sink,
-        &[
-            Piece::Text(b"ran "),
-            Piece::Text(name),
-            Piece::Text(b" "),
-            Piece::Number(i128::from(run.index)),
-            Piece::Text(b" "),
-            Piece::Number(i128::from(run.version)),
-            Piece::Text(b" "),
-            Piece::Number(i128::from(run.arrived)),
-            Piece::Text(b" "),
-            Piece::Number(i128::from(run.started)),
-            Piece::Text(b" "),
-            Piece::Number(i128::from(run.done)),
-            Piece::Text(b" "),
-            Piece::Text(word),
-            Piece::Text(b"\n"),
-        ],
-    )
+    page.line(&[
+        Piece::Text(b"ran "),
+        Piece::Text(name),
+        Piece::Text(b" "),
+        Piece::Number(i128::from(run.index)),
+        Piece::Text(b" "),
+        Piece::Number(i128::from(run.version)),
+        Piece::Text(b" "),
+        Piece::Number(i128::from(run.arrived)),
+        Piece::Text(b" "),
+        Piece::Number(i128::from(run.started)),
+        Piece::Text(b" "),
+        Piece::Number(i128::from(run.done)),
+        Piece::Text(b" "),
+        Piece::Text(word),
+        Piece::Text(b"\n"),
+    ])
 }
 
 // The tick of an arrival.
@@ -112,19 +108,20 @@ pub(crate) struct Recorded {
 }
 
 // The line of a record.
-fn put_record<K: Sink>(
+fn add_record<K: Sink>(
+    page: &mut Page<'_, K>,
     program: &Program,
     arrivals: &Arrivals,
     recorded: Recorded,
-    sink: &mut K,
 ) -> Result<(), WriteFail>
     requires events { length arrivals.now.timings ≡ length program.now.events }
     requires entry { IsOf program.now recorded.entry }
-    ensures text { Writes (K.written sink.old) (K.written sink.new) (log_line program.now.headers arrivals.now recorded.done recorded.entry) result }
-    ensures cause { HasCause (K.faults sink.old) (K.faults sink.new) result }
+    ensures same_sink { sink_name page.new ≡ sink_name page.old }
+    ensures text { AddsTo K.written page.old page.new (log_line program.now.headers arrivals.now recorded.done recorded.entry) result }
+    ensures cause { HasCause (K.faults (sink_in page.old)) (K.faults (sink_in page.new)) result }
 {
     match recorded.entry {
-        LogEntry::Out { channel, value } => put_out(sink, channel, value),
+        LogEntry::Out { channel, value } => add_out(page, channel, value),
         LogEntry::Ran {
             event,
             version,
@@ -140,7 +137,7 @@ fn put_record<K: Sink>(
                 done: recorded.done,
             };
             let met = recorded.done <= due(program, arrivals, event, index);
-            put_ran_line(sink, event_name(program, event), run, word(met))
+            add_ran_line(page, event_name(program, event), run, word(met))
         }
     }
 }
@@ -173,27 +170,28 @@ pub(crate) fn record_at<B: Board>(
 }
 
 /// The line of each committed record, in order. The heads are those of the board's first image.
-pub(crate) fn put_log<B: Board, K: Sink>(
+pub(crate) fn add_log<B: Board, K: Sink>(
+    page: &mut Page<'_, K>,
     program: &Program,
     arrivals: &Arrivals,
     layout: &Layout,
     board: &B,
     heads: Heads,
     len: u32,
-    sink: &mut K,
 ) -> Result<(), WriteFail>
     requires events { length arrivals.now.timings ≡ length program.now.events }
     requires sound { IsSound (B.start (B.origin board.now)) (B.state board.now) }
     requires replayed { IsReplayed program.now (past_of layout.now (B.start (B.origin board.now)) (B.state board.now)) }
     requires heads { AreHeads layout.now (B.start (B.origin board.now)).image heads }
     requires len { len ≡ (last_slot (past_of layout.now (B.start (B.origin board.now)) (B.state board.now))).len }
-    ensures text { Writes (K.written sink.old) (K.written sink.new) (log_text program.now.headers arrivals.now (past_of layout.now (B.start (B.origin board.now)) (B.state board.now))) result }
-    ensures cause { HasCause (K.faults sink.old) (K.faults sink.new) result }
+    ensures same_sink { sink_name page.new ≡ sink_name page.old }
+    ensures text { AddsTo K.written page.old page.new (log_text program.now.headers arrivals.now (past_of layout.now (B.start (B.origin board.now)) (B.state board.now))) result }
+    ensures cause { HasCause (K.faults (sink_in page.old)) (K.faults (sink_in page.new)) result }
 {
     let mut cursor = Cursor::at(heads);
     for place in 0..len {
         let recorded = record_at(program, layout, board, &mut cursor, place);
-        put_record(program, arrivals, recorded, sink)?;
+        add_record(page, program, arrivals, recorded)?;
     }
     Ok(())
 }

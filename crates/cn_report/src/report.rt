@@ -2,25 +2,26 @@
 
 ghost use Rattle.std.specs.Prelude.{◌≡◌, ◌∷◌, [], codes, decimal, length};
 ghost use Rattle.cn_base.specs.Causes.{HasCause};
+ghost use Rattle.cn_base.specs.PageWords.{AddsTo, sink_in, sink_name};
 ghost use Rattle.cn_base.specs.Writing.{Writes};
 ghost use Rattle.nv_memory.specs.Board.{IsSound};
 ghost use Rattle.checkpoint_slots.specs.Slot.{IsMadeFor};
 ghost use Rattle.degradation.specs.Choice.{Suits};
-ghost use Rattle.cn_report.specs.Report.{line};
-ghost use Rattle.cn_report.specs.Past.{past_of};
+ghost use Rattle.cn_base.specs.Texts.{line};
+ghost use Rattle.recovery.specs.Past.{past_of};
 ghost use Rattle.cn_report.specs.Outcome.{end_word};
 ghost use Rattle.cn_report.specs.Whole.{outcome_text, report_text, IsReplayed};
 ghost use Rattle.cn_report.specs.Windows.{AreHeads};
 
-use crate::chosen::write_chosen;
-use cn_scheduler::End;
+use crate::chosen::add_chosen;
 use crate::heads::Heads;
-use crate::log::put_log;
+use crate::log::add_log;
 use crate::shadow::Shadow;
-use crate::story::{put_dropped, put_story};
-use crate::variables::put_variables;
+use crate::story::{add_dropped, add_story};
+use crate::variables::add_variables;
 use cat_program::Program;
-use cn_base::{Piece, Sink, WriteFail, put_line};
+use cn_base::{Page, Piece, Sink, WriteFail};
+use cn_scheduler::End;
 use degradation::Chosen;
 use event_arrivals::Arrivals;
 use nv_memory::{Board, Layout};
@@ -36,34 +37,33 @@ fn word(end: End) -> &'static [u8]
 }
 
 // When all ended, what is stored then, how many steps are committed, and why.
-fn put_end<'a, K: Sink>(
-    sink: &mut K,
+fn add_end<'a, K: Sink>(
+    page: &mut Page<'_, K>,
     tick: u32,
     stored: u32,
     steps: u32,
     word: &'a [u8],
 ) -> Result<(), WriteFail>
-    ensures text { Writes (K.written sink.old) (K.written sink.new) (line (codes "end" ∷ decimal tick ∷ decimal stored ∷ decimal steps ∷ word.now ∷ [])) result }
-    ensures cause { HasCause (K.faults sink.old) (K.faults sink.new) result }
+    ensures same_sink { sink_name page.new ≡ sink_name page.old }
+    ensures text { AddsTo K.written page.old page.new (line (codes "end" ∷ decimal tick ∷ decimal stored ∷ decimal steps ∷ word.now ∷ [])) result }
+    ensures cause { HasCause (K.faults (sink_in page.old)) (K.faults (sink_in page.new)) result }
 {
-    put_line(
-        sink,
-        &[
-            Piece::Text(b"end "),
-            Piece::Number(i128::from(tick)),
-            Piece::Text(b" "),
-            Piece::Number(i128::from(stored)),
-            Piece::Text(b" "),
-            Piece::Number(i128::from(steps)),
-            Piece::Text(b" "),
-            Piece::Text(word),
-            Piece::Text(b"\n"),
-        ],
-    )
+    page.line(&[
+        Piece::Text(b"end "),
+        Piece::Number(i128::from(tick)),
+        Piece::Text(b" "),
+        Piece::Number(i128::from(stored)),
+        Piece::Text(b" "),
+        Piece::Number(i128::from(steps)),
+        Piece::Text(b" "),
+        Piece::Text(word),
+        Piece::Text(b"\n"),
+    ])
 }
 
 // The lines from the first one of the log on.
-fn put_outcome<B: Board, K: Sink>(
+fn add_outcome<B: Board, K: Sink>(
+    page: &mut Page<'_, K>,
     program: &Program,
     arrivals: &Arrivals,
     layout: &Layout,
@@ -71,41 +71,70 @@ fn put_outcome<B: Board, K: Sink>(
     end: End,
     heads: Heads,
     shadow: &mut Shadow,
-    sink: &mut K,
 ) -> Result<(), WriteFail>
     requires events { length arrivals.now.timings ≡ length program.now.events }
     requires sound { IsSound (B.start (B.origin board.now)) (B.state board.now) }
     requires replayed { IsReplayed program.now (past_of layout.now (B.start (B.origin board.now)) (B.state board.now)) }
     requires heads { AreHeads layout.now (B.start (B.origin board.now)).image heads }
     requires made { IsMadeFor layout.now shadow.old.slot }
-    ensures text { Writes (K.written sink.old) (K.written sink.new) (outcome_text program.now.headers program.now.variables arrivals.now (past_of layout.now (B.start (B.origin board.now)) (B.state board.now)) (B.state board.now).tick (B.state board.now).stored end) result }
+    ensures same_sink { sink_name page.new ≡ sink_name page.old }
+    ensures text { AddsTo K.written page.old page.new (outcome_text program.now.headers program.now.variables arrivals.now (past_of layout.now (B.start (B.origin board.now)) (B.state board.now)) (B.state board.now).tick (B.state board.now).stored end) result }
     ensures made { IsMadeFor layout.now shadow.new.slot }
-    ensures cause { HasCause (K.faults sink.old) (K.faults sink.new) result }
+    ensures cause { HasCause (K.faults (sink_in page.old)) (K.faults (sink_in page.new)) result }
 {
     recover(board, layout, &mut shadow.slot);
-    put_log(
+    add_log(
+        page,
         program,
         arrivals,
         layout,
         board,
         heads,
         shadow.slot.len,
-        sink,
     )?;
-    put_end(
-        sink,
+    add_end(
+        page,
         board.tick(),
         board.stored(),
         shadow.slot.steps,
         word(end),
     )?;
-    put_variables(program, &shadow.slot, sink)
+    add_variables(page, program, &shadow.slot)
+}
+
+// The lines of the report.
+fn add_report<B: Board, K: Sink>(
+    page: &mut Page<'_, K>,
+    program: &Program,
+    chosen: &Chosen,
+    arrivals: &Arrivals,
+    layout: &Layout,
+    board: &B,
+    end: End,
+    shadow: &mut Shadow,
+) -> Result<(), WriteFail>
+    requires suits { Suits program.now chosen.now }
+    requires events { length arrivals.now.timings ≡ length program.now.events }
+    requires replayed { IsReplayed program.now (past_of layout.now (B.start (B.origin board.now)) (B.state board.now)) }
+    requires made { IsMadeFor layout.now shadow.old.slot }
+    ensures same_sink { sink_name page.new ≡ sink_name page.old }
+    ensures text { AddsTo K.written page.old page.new (report_text program.now.headers program.now.variables chosen.now arrivals.now (past_of layout.now (B.start (B.origin board.now)) (B.state board.now)) (B.state board.now).tick (B.state board.now).stored end) result }
+    ensures made { IsMadeFor layout.now shadow.new.slot }
+    ensures cause { HasCause (K.faults (sink_in page.old)) (K.faults (sink_in page.new)) result }
+{
+    let _sound = board.entries();
+    let _checked = program.bodies();
+    let heads = Heads::fresh();
+    add_chosen(page, program, chosen)?;
+    add_dropped(page, program, arrivals)?;
+    add_story(page, layout, board, heads)?;
+    add_outcome(page, program, arrivals, layout, board, end, heads, shadow)
 }
 
 /// Writes the report of a replay, or a proper prefix of it where a write fails: the chosen versions and numbers; the arrivals that
 /// were dropped; what happened on the board, in order; the committed outputs and events, each event with the tick at which it was
 /// done; how it ended; and the committed variables. The board is as a replay leaves it that began with the program's first image.
-/// Takes no memory. Afterwards the shadow may hold other slots.
+/// It goes to the sink some thousands of bytes at once, and takes no memory. Afterwards the shadow may hold other slots.
 pub fn write_report<B: Board, K: Sink>(
     program: &Program,
     chosen: &Chosen,
@@ -124,11 +153,11 @@ pub fn write_report<B: Board, K: Sink>(
     ensures made { IsMadeFor layout.now shadow.new.slot }
     ensures cause { HasCause (K.faults sink.old) (K.faults sink.new) result }
 {
-    let _sound = board.entries();
-    let _checked = program.bodies();
-    let heads = Heads::fresh();
-    write_chosen(program, chosen, sink)?;
-    put_dropped(program, arrivals, sink)?;
-    put_story(layout, board, heads, sink)?;
-    put_outcome(program, arrivals, layout, board, end, heads, shadow, sink)
+    let mut page = Page::on(sink);
+    match add_report(
+        &mut page, program, chosen, arrivals, layout, board, end, shadow,
+    ) {
+        Ok(()) => page.close(),
+        Err(fail) => Err(fail),
+    }
 }

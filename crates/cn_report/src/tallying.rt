@@ -4,7 +4,7 @@ ghost use Rattle.std.specs.Prelude.{◌≡◌, ◌<◌, ◌≤◌, if◌then◌e
 ghost use Rattle.nv_memory.specs.Board.{IsSound};
 ghost use Rattle.nv_log.specs.Record.{IsOf};
 ghost use Rattle.checkpoint_slots.specs.Slot.{IsMadeFor};
-ghost use Rattle.cn_report.specs.Past.{past_of, last_slot, entry_in, done_at};
+ghost use Rattle.recovery.specs.Past.{past_of, last_slot, entry_in, done_at};
 ghost use Rattle.cn_report.specs.Counts.{is_out, is_ran, is_met, records, outs_in, ran_in, met_in};
 ghost use Rattle.cn_report.specs.Tallied.{tally_of};
 ghost use Rattle.cn_report.specs.Whole.{IsReplayed};
@@ -14,6 +14,7 @@ use crate::counts::Tally;
 use crate::cursor::Cursor;
 use crate::heads::Heads;
 use crate::log::{Recorded, due, record_at};
+use crate::resting::last_asleep;
 use crate::shadow::Shadow;
 use cat_program::{LogEntry, Program};
 use event_arrivals::Arrivals;
@@ -58,10 +59,14 @@ fn is_met(program: &Program, arrivals: &Arrivals, recorded: Recorded) -> bool
 fn count_lost<B: Board>(board: &B) -> u32
     ensures { result ≡ count_by (λ entry. entry.lost) (B.state board.now).timeline }
 {
+    let entries = board.entries();
     let mut lost = 0;
-    for place in 0..board.entries() {
-        let entry = board.entry(place);
+    let mut place = 0;
+    while place < entries {
+        let last = last_asleep(board, place);
+        let entry = board.entry(last);
         lost += one_if(entry.lost);
+        place = last + 1;
     }
     lost
 }

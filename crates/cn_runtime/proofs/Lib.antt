@@ -2,3 +2,4 @@ pub mod Turned
 pub mod Engines
 pub mod Prepares
 pub mod Readied
+pub mod RowNumbers

@@ -1,5 +1,5 @@
 -- What is prepared makes a replay.
-use Rattle.std.proofs.Common.{◌≡◌, ℕ, zero, suc, ◌+◌, ◌<◌, ◌≤◌, List, [], ◌∷◌, ◌++◌, append_assoc, drop, length, map, max, Some, refl, sym, ap, subst, ◌∙◌, arith}
+use Rattle.std.proofs.Common.{◌≡◌, ℕ, zero, suc, ◌+◌, ◌<◌, ◌≤◌, List, [], ◌∷◌, ◌++◌, append_assoc, drop, length, max, Some, refl, sym, ap, subst, ◌∙◌, arith}
 use Rattle.std.specs.Prelude.{All, sum_by, get_or, slice_get, slice_index}
 use Rattle.std.proofs.lemmas.List.{drop_all, drop_more}
 use Rattle.std.proofs.lemmas.Option.{get_or_from_slice_get}
@@ -26,8 +26,8 @@ use Rattle.cn_scheduler.specs.declared.engine.Engine.{Engine}
 use Rattle.cn_scheduler.specs.EnginePoint.{IsFirst}
 use Rattle.cn_scheduler.specs.declared.plan.Plan.{Plan}
 use Rattle.cn_scheduler.specs.declared.plan.PlanRow.{PlanRow}
-use Rattle.cn_scheduler.specs.Belongs.{IsPlanOf, IsRowOf, IsLayoutOf as HasCounts}
-use Rattle.cn_runtime.specs.Planned.{deadlines_in, fault_of, row_of, IsChosenFor, IsPlanFor, IsPrepared, IsRefused}
+use Rattle.cn_scheduler.specs.Belongs.{IsRowOf, IsLayoutOf as HasCounts}
+use Rattle.cn_runtime.specs.Planned.{deadlines_in, fault_of, row_of, IsChosenFor, IsPlanFor, IsPrepared, IsRefused, PlansAreSetUp}
 use Rattle.lawful_timeline.specs.Working.{IsSetUp}
 
 -- what is kept back beside one job of each event, a checkpoint, a section and a wake is within what the store holds
@@ -60,7 +60,7 @@ row_fits program b device lines chosen choice suits =
 counts : (program : Checked) (device : Device) (l : Layout) → IsLayoutOf program device l → HasCounts program l
 counts program device l is = record { words = is.words; tasks = is.tasks; events = is.events }
 
-all_one : {X : Type 0} (P : X → Type 0) (x : X) → P x → All P (x ∷ [])
+pub all_one : {X : Type 0} (P : X → Type 0) (x : X) → P x → All P (x ∷ [])
 all_one P x p = λ i d lt. subst (λ (n : ℕ). P (get_or (x ∷ []) n d)) (sym (none i lt)) p
   where
     none : (n : ℕ) → n < 1 → n ≡ 0
@@ -83,6 +83,10 @@ set_up program device arrivals b lines chosen plan checked choice suits is event
       };
       spaced = subst (λ (l : Lists). AreSpaced l) (sym is.arrivals_are) spaced;
     }
+
+pub are_set_up : PlansAreSetUp
+are_set_up program device arrivals l chosen plan checked events spaced is planned =
+    set_up program device arrivals is.bounds (lines_of l) chosen plan checked is.choice is.suits planned events spaced
 
 -- ---- deadlines, one after the other
 

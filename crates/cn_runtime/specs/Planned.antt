@@ -1,12 +1,13 @@
 -- What is prepared for a replay.
-use Rattle.std.specs.Prelude.{◌≡◌, ℕ, List, [], ◌∷◌, map}
+use Rattle.std.specs.Prelude.{◌≡◌, ℕ, List, [], ◌∷◌, length, map}
 use Rattle.cat_program.specs.declared.headers.Event.{Event}
-use Rattle.cat_program.specs.Checked.{Checked}
+use Rattle.cat_program.specs.Checked.{Checked, IsChecked}
 use Rattle.cat_machine.specs.Code.{code_of}
 use Rattle.nv_memory.specs.declared.device.Device.{Device}
 use Rattle.nv_memory.specs.declared.layout.Layout.{Layout}
 use Rattle.nv_memory.specs.Layout.{lines_of}
 use Rattle.event_arrivals.specs.Arrivals.{Lists}
+use Rattle.event_arrivals.specs.Spaced.{AreSpaced}
 use Rattle.cost_bounds.specs.BoundsValue.{BoundsValue}
 use Rattle.cost_bounds.specs.Greatest.{AreBounds}
 use Rattle.feasibility.specs.declared.choose.ChooseFault.{ChooseFault}
@@ -45,6 +46,13 @@ pub record IsChosenFor (program : Checked) (device : Device) (l : Layout) (chose
   pub are_bounds : AreBounds program device (lines_of l) bounds
   pub choice : IsChoice program bounds device (supply_of device) (lines_of l) chosen
   pub suits : Suits program chosen
+
+-- the plan of a choice for a checked program is set up, where each event has arrivals that are spaced
+abbrev pub PlansAreSetUp : Type 0
+PlansAreSetUp =
+    (program : Checked) (device : Device) (arrivals : Lists) (l : Layout) (chosen : Chosen) (plan : Plan) → IsChecked program
+    → length arrivals.timings ≡ length program.events → AreSpaced arrivals → IsChosenFor program device l chosen → IsPlanFor program device arrivals chosen plan
+    → IsSetUp program plan
 
 -- all of a replay before its first step
 pub record IsPrepared (program : Checked) (device : Device) (arrivals : Lists) (prepared : Prepared) : Type 0 where

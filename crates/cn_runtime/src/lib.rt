@@ -2,11 +2,13 @@
 #![tactic(auto)]
 
 mod by_engine;
+mod plans;
 mod prepared;
 mod preparing;
 mod refused;
 mod replaying;
 
+pub use plans::{plans_are_planned, plans_are_set_up};
 pub use prepared::{Prepared, replay};
 pub use preparing::prepare;
 pub use refused::PrepareFault;

@@ -9,7 +9,7 @@ use crate::prepared::Prepared;
 use crate::refused::PrepareFault;
 use cat_compile::compile;
 use cat_machine::Code;
-use cat_program::Program;
+use cat_program::{Program, events_have_headers};
 use cn_base::{List, NoMemory};
 use cn_scheduler::{Engine, Plan, PlanRow};
 use cost_bounds::bounds;
@@ -25,6 +25,7 @@ fn deadlines_of(alloc: Global, program: &Program) -> Result<Vec<u32>, AllocError
     ensures few { IfOk result (λ found. (event : ℕ) → slice_index found.items event ≤ 1000000) }
 {
     let _versions = program.versions();
+    events_have_headers();
     let mut found = Vec::new(alloc);
     'events: for number in 0..program.events() {
         found.push(program.event(number).deadline)?;
@@ -99,6 +100,7 @@ fn plan_for(
     ensures layout { IfOk result (λ plan. plan.layout ≡ layout) }
 {
     let _checked = program.bodies();
+    events_have_headers();
     let rows = rows_of(alloc, chosen)?;
     match deadlines_of(alloc, program) {
         Ok(deadlines) => Ok(Plan {

@@ -4,10 +4,10 @@ use Rattle.std.specs.Int.{w32, cast_signed}
 use Rattle.std.proofs.lemmas.List.{length-map}
 use Rattle.std.proofs.lemmas.List.FromFn.{length-map-range_with_len}
 use Rattle.cat_program.specs.Body.{Body}
-use Rattle.cat_program.specs.Checked.{Checked, IsChecked, program_marks}
+use Rattle.cat_program.specs.Checked.{Checked, IsChecked}
 use Rattle.cat_machine.specs.CodeValue.{CodeValue}
 use Rattle.cat_machine.specs.Code.{code_of}
-use Rattle.cat_machine.specs.Fits.{Fits, StandsFor, Idle}
+use Rattle.cat_machine.specs.Fits.{Fits, Idle}
 use Rattle.cat_machine.specs.Ends.{RunsEnd}
 use Rattle.nv_memory.specs.declared.layout.Layout.{Layout}
 use Rattle.nv_memory.specs.Layout.{size_of}
@@ -15,7 +15,8 @@ use Rattle.checkpoint_slots.specs.declared.slot.Slot.{Slot}
 use Rattle.checkpoint_slots.specs.Numbers.{number_at}
 use Rattle.checkpoint_slots.specs.Slot.{variables_of, read_slot, IsMadeFor, NumbersFit}
 use Rattle.checkpoint_slots.specs.Image.{committed_bytes, committed_slot}
-use Rattle.recovery.specs.Committed.{Committed, RestsAt, IsCommitted, IsRecorded}
+use Rattle.cat_program.specs.Resting.{RestsAt}
+use Rattle.recovery.specs.Committed.{Committed, IsCommitted, IsRecorded}
 use Rattle.cn_scheduler.specs.declared.plan.Plan.{Plan}
 use Rattle.cn_scheduler.specs.Point.{Work, Point, held_of, slot_of, work_of}
 use Rattle.cn_scheduler.specs.Belongs.{IsPlanOf, IsReady, BelongTogether}
@@ -32,23 +33,12 @@ read_made l bytes = record {
 pub slot_again : (s : Slot) → NumbersFit s → slot_of (work_of s) ≡ s
 slot_again s fit = let words = sym (words_again s (variables_of s) fit refl) in λ i. record s { words = words i }
 
-pub stands_for : (program : Checked) (place : Option ℕ) (current : Option Body) → RestsAt program place current → StandsFor (program_marks program) place current
-stands_for program None None r = tt
-stands_for program None (Some k) r = cc
-stands_for program (Some pc) None r = let no = r.2 in cc
-stands_for program (Some pc) (Some k) r = let same : k ≡ r.0 = let e = r.2 in cc in r.1 ∙ ap (λ (b : Body). Some b) (sym same)
-
-pub rests_at : (program : Checked) (place : Option ℕ) (current : Option Body) → StandsFor (program_marks program) place current → RestsAt program place current
-rests_at program None None s = refl
-rests_at program None (Some k) s = absurd s
-rests_at program (Some pc) None s = absurd s
-rests_at program (Some pc) (Some k) s = (k, s, refl)
-
 -- no place of the code is the number that stands for none
 pub not_last : RunsEnd → (program : Checked) (place : Option ℕ) (current : Option Body) → IsChecked program → RestsAt program place current → place ≢ Some 4294967295
 not_last runs program None current checked r same = cc
-not_last runs program (Some pc) current checked r same =
-    let below = runs.places program pc r.0 checked r.1 in
+not_last runs program (Some pc) None checked r same = absurd r
+not_last runs program (Some pc) (Some k) checked r same =
+    let below = runs.places program pc k checked r in
     let is : pc ≡ 4294967295 = cc in
     omega (arith, below, is)
 
@@ -61,7 +51,7 @@ fits_rest program code w current checked code_is words posts rests payload = rec
   shape = record { words_are = words; posts_are = posts };
   stands = Idle (record {
     state = record { store = record { words = w.words; posts = w.posts }; current = current };
-    corresponds = record { words = refl; posts = refl; place = stands_for program w.place current rests; free = refl; empty = refl };
+    corresponds = record { words = refl; posts = refl; place = rests; free = refl; empty = refl };
   });
 }
 

@@ -28,7 +28,7 @@ first_belongs program plan e board code_is plan_is is fresh image =
       committed = record { slot = s; current = None; entries = [] };
       is_committed = fresh.committed;
       committed_steps = omega (arith, first.steps);
-      fits = subst (λ (x : Work). (payload : ℤ) → Fits program plan.code (held_of x payload)) (sym is.work) (fits_rest program plan.code w None checked code_is refl checked.started refl);
+      fits = subst (λ (x : Work). (payload : ℤ) → Fits program plan.code (held_of x payload)) (sym is.work) (fits_rest program plan.code w None checked code_is refl checked.started tt);
       events = ap (λ (x : Work). length x.done) is.work ∙ length-replicate plan.layout.events 0 ∙ plan_is.layout.events;
       steps = omega (arith, ap (λ (x : Work). x.steps) is.work);
       len = omega (arith, first.len);
@@ -37,7 +37,7 @@ first_belongs program plan e board code_is plan_is is fresh image =
       ready = subst (IsReady program plan board.image) (sym is.work) (record {
         current = None;
         entries = [];
-        rests = refl;
+        rests = tt;
         recorded = record { many = refl; entries_are = λ k entry found. absurd (cc); counted = λ ev below. get_or-replicate plan.layout.events ev 0 0 below };
         len_fits = omega arith;
       });

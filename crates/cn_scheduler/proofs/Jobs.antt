@@ -26,7 +26,7 @@ use Rattle.nv_log.specs.Record.{IsOf, EntryFits}
 use Rattle.cat_machine.specs.Fits.{Fits, IsIdle}
 use Rattle.recovery.specs.Committed.{Committed, IsCommitted, is_ran}
 use Rattle.recovery.specs.Laws.{CommitsLast}
-use Rattle.cn_scheduler.proofs.Back.{rests_at, fits_rest, belongs_back, not_last}
+use Rattle.cn_scheduler.proofs.Back.{fits_rest, belongs_back, not_last}
 use Rattle.cn_scheduler.proofs.Going.{Fit, are_fit, outs_are}
 use Rattle.cn_scheduler.proofs.Recorded.{IsSame, Hold, same_image, changed, roomy, done_record, lost_record, path_same, hold_more, hold_image, path_hold, count_more}
 use Rattle.cat_machine.specs.declared.instr.Mode.TheVariants.{Handler}
@@ -301,7 +301,7 @@ module _ (plan : Plan) (program : Checked) (e : Engine) (old : State) (due : Due
   job_ready mid fit fits a few = record {
     current = idle_after.state.current;
     entries = outs ++ entry ∷ [];
-    rests = rests_at program run.after.place idle_after.state.current idle_after.corresponds.place;
+    rests = idle_after.corresponds.place;
     recorded = record {
       many = length-append outs (entry ∷ []) ∙ ap (λ (n : ℕ). n + 1) outs_many;
       entries_are = job_hold mid fit fits a;
@@ -314,7 +314,7 @@ module _ (plan : Plan) (program : Checked) (e : Engine) (old : State) (due : Due
   }
 
   pub job_fits : Fits program plan.code run.after → (payload : ℤ) → Fits program plan.code (held_of (after_job work due run) payload)
-  job_fits after = fits_rest program plan.code (after_job work due run) idle_after.state.current after.checked after.code_is after.shape.words_are after.shape.posts_are (rests_at program run.after.place idle_after.state.current idle_after.corresponds.place)
+  job_fits after = fits_rest program plan.code (after_job work due run) idle_after.state.current after.checked after.code_is after.shape.words_are after.shape.posts_are idle_after.corresponds.place
 
   pub job_events : length (after_job work due run).done ≡ length program.events
   job_events = length-set work.done due.event (slice_index work.done due.event + 1) ∙ b.events
@@ -393,7 +393,7 @@ module _ (plan : Plan) (program : Checked) (e : Engine) (old : State) (due : Due
     pub now_place : e'.working.place ≢ Some 4294967295
     now_place same =
         let end = s.ended refl in
-        not_last runs program s.run.after.place idle.state.current (fits_now plan program e old rest b).checked (rests_at program s.run.after.place idle.state.current idle.corresponds.place) (sym (ap (λ (h : Held). h.place) end.held_is) ∙ same)
+        not_last runs program s.run.after.place idle.state.current (fits_now plan program e old rest b).checked idle.corresponds.place (sym (ap (λ (h : Held). h.place) end.held_is) ∙ same)
 
     pub now_ready : slot.len ≤ plan.layout.log → IsReady program plan mid.image (work_in e2)
     now_ready few =

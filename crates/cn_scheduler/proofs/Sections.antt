@@ -15,7 +15,6 @@ use Rattle.nv_memory.specs.Board.{State}
 use Rattle.nv_log.specs.Append.{AppendsAreSafe}
 use Rattle.checkpoint_slots.specs.Image.{committed_slot}
 use Rattle.checkpoint_slots.specs.Slot.{NumbersFit}
-use Rattle.recovery.specs.Committed.{RestsAt}
 use Rattle.recovery.specs.Laws.{CommitsLast}
 use Rattle.cn_scheduler.specs.declared.plan.Plan.{Plan}
 use Rattle.cn_scheduler.specs.declared.engine.Engine.{Engine}
@@ -29,7 +28,7 @@ use Rattle.cn_scheduler.specs.Chunks.{task_limits, after_section, Leaves, Sectio
 use Rattle.cn_scheduler.specs.Belongs.{IsReady, BelongTogether}
 use Rattle.cn_scheduler.specs.EnginePoint.{work_in, point_of, IsAtRest}
 use Rattle.cn_scheduler.proofs.Asking.{asked_later, asked_strictly}
-use Rattle.cn_scheduler.proofs.Back.{fits_rest, rests_at, belongs_back}
+use Rattle.cn_scheduler.proofs.Back.{fits_rest, belongs_back}
 use Rattle.cn_scheduler.proofs.Going.{Fit, are_fit, outs_are, some_acts}
 use Rattle.cn_scheduler.proofs.Recorded.{IsSame, path_same, same_hold, path_hold, count_more, Hold}
 
@@ -123,7 +122,7 @@ module _ (plan : Plan) (program : Checked) (e : Engine) (old : State) (rest : Is
       ended_belongs q some asked fit after few work dirty on =
           let same = same_after Ended q.board asked in
           let idle = whole.idle in
-          let rests : RestsAt program run.after.place idle.state.current = rests_at program run.after.place idle.state.current idle.corresponds.place in
+          let rests = idle.corresponds.place in
           let many = asks_many l w.len (run_acts plan.code run) in
           let acts = some_acts Task plan.code e.working 999999 run whole.ends in
           let t = asked_strictly (task_limits plan) (path_asks l w.len (run_acts plan.code run)) old q.board (omega (arith, many, acts)) some asked in

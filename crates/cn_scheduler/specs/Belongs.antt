@@ -7,7 +7,8 @@ use Rattle.cat_program.specs.Body.{Body}
 use Rattle.cat_machine.specs.Fits.{Fits}
 use Rattle.nv_memory.specs.declared.layout.Layout.{Layout}
 use Rattle.nv_memory.specs.Layout.{size_of}
-use Rattle.recovery.specs.Committed.{Committed, RestsAt, IsCommitted, IsRecorded}
+use Rattle.cat_program.specs.Resting.{RestsAt}
+use Rattle.recovery.specs.Committed.{Committed, IsCommitted, IsRecorded}
 use Rattle.cn_scheduler.specs.declared.plan.Plan.{Plan}
 use Rattle.cn_scheduler.specs.declared.plan.PlanRow.{PlanRow}
 use Rattle.cn_scheduler.specs.Point.{Work, Point, held_of, slot_of, work_of}

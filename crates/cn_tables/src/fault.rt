@@ -1,3 +1,6 @@
+ghost use Rattle.std.specs.Prelude.{◌≡◌};
+ghost use Rattle.cn_tables.specs.KindNames.{row_kind_name};
+
 /// What is wrong with a table, in the order in which a row is looked at.
 #[derive(Clone, Copy, PartialEq, Eq, Debug)]
 pub enum RowKind {
@@ -23,6 +26,27 @@ pub enum RowKind {
     Total,
     /// The table has too few rows.
     Few,
+}
+
+impl RowKind {
+    /// The kind's name.
+    pub fn text(self) -> &'static str
+        ensures { result.now ≡ row_kind_name self }
+    {
+        match self {
+            RowKind::Long => "Long",
+            RowKind::Header => "Header",
+            RowKind::Many => "Many",
+            RowKind::Fields => "Fields",
+            RowKind::Number => "Number",
+            RowKind::Range => "Range",
+            RowKind::Name => "Name",
+            RowKind::Fill => "Fill",
+            RowKind::Order => "Order",
+            RowKind::Total => "Total",
+            RowKind::Few => "Few",
+        }
+    }
 }
 
 /// Why a text is no table.

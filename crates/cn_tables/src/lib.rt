@@ -4,6 +4,7 @@
 
 mod fault;
 mod fill_text;
+mod laws;
 mod ranges;
 mod reading;
 mod spelled;
@@ -12,6 +13,7 @@ mod tests;
 
 pub use fault::{RowKind, TableFault};
 pub use fill_text::fill_of;
+pub use laws::rows_are_read;
 pub use ranges::{within, word};
 pub use reading::{MOST_BYTES, Rows, open_table};
 pub use spelled::number;

@@ -8,35 +8,35 @@ use Rattle.cat_program.specs.Places.{tasks_size}
 use Rattle.cat_program.specs.Checked.{Checked, IsChecked, bodies_of, versions_of}
 use Rattle.cat_machine.specs.CodeValue.{versions_at}
 use Rattle.cat_machine.specs.Code.{tasks_code, events_code, events_entries, code_of}
-use Rattle.cat_machine.proofs.Entering.{tasks_code_length}
+use Rattle.cat_machine.specs.LaidOut.{CodeIsLaidOut}
 use Rattle.cost_bounds.proofs.Programs.{program_versions}
 
-code_length : (p : Checked) → length (code_of p).instrs ≡ tasks_size (bodies_of p) + length (events_code (tasks_size (bodies_of p)) (versions_of p))
+code_length : CodeIsLaidOut → (p : Checked) → length (code_of p).instrs ≡ tasks_size (bodies_of p) + length (events_code (tasks_size (bodies_of p)) (versions_of p))
 unfolding code_of
-code_length p = omega (arith, length-append (tasks_code 0 0 (bodies_of p)) (events_code (tasks_size (bodies_of p)) (versions_of p)), tasks_code_length (bodies_of p) 0 0)
+code_length laid p = omega (arith, length-append (tasks_code 0 0 (bodies_of p)) (events_code (tasks_size (bodies_of p)) (versions_of p)), laid.sizes.tasks (bodies_of p) 0 0)
 
-pub code_covers : (p : Checked) → tasks_size (bodies_of p) ≤ length (code_of p).instrs
-code_covers p = omega (arith, code_length p)
+pub code_covers : CodeIsLaidOut → (p : Checked) → tasks_size (bodies_of p) ≤ length (code_of p).instrs
+code_covers laid p = omega (arith, code_length laid p)
 
 no_code : (events : List (List Body)) (at : ℕ) → length (events_entries at events) ≡ 0 → length (events_code at events) ≡ 0
 no_code [] at e = refl
 no_code (event ∷ events) at e = absurd (omega (arith, e))
 
-pub end_without_events : (p : Checked) → length (code_of p).versions ≡ 0 → length (code_of p).instrs ≡ tasks_size (bodies_of p)
-end_without_events p e =
+pub end_without_events : CodeIsLaidOut → (p : Checked) → length (code_of p).versions ≡ 0 → length (code_of p).instrs ≡ tasks_size (bodies_of p)
+end_without_events laid p e =
     let at = tasks_size (bodies_of p) in
-    omega (arith, code_length p, no_code (versions_of p) at (ap length (sym (program_versions p)) ∙ e))
+    omega (arith, code_length laid p, no_code (versions_of p) at (ap length (sym (program_versions p)) ∙ e))
 
 first_at : (events : List (List Body)) (at entry : ℕ) → slice_get (unwrap_or (slice_get (events_entries at events) 0) []) 0 ≡ Some entry → entry ≡ at
 first_at [] at entry e = cc
 first_at ([] ∷ events) at entry e = cc
 first_at ((body ∷ bodies) ∷ events) at entry e = cc
 
-pub end_at_first : (p : Checked) (entry len : ℕ) → len ≡ length (code_of p).instrs → slice_get (versions_at (code_of p) 0) 0 ≡ Some entry → min len entry ≡ tasks_size (bodies_of p)
-end_at_first p entry len e found =
+pub end_at_first : CodeIsLaidOut → (p : Checked) (entry len : ℕ) → len ≡ length (code_of p).instrs → slice_get (versions_at (code_of p) 0) 0 ≡ Some entry → min len entry ≡ tasks_size (bodies_of p)
+end_at_first laid p entry len e found =
     let at = tasks_size (bodies_of p) in
     let is = first_at (versions_of p) at entry (ap (λ l. slice_get (unwrap_or (slice_get l 0) []) 0) (sym (program_versions p)) ∙ found) in
-    omega (arith, e, is, code_length p)
+    omega (arith, e, is, code_length laid p)
 
 none_at : (g : ℕ → Body) (headers : List Event) (events : List (List ℕ)) (at : ℕ) → EachEventIs headers events → 0 < length events → slice_get (unwrap_or (slice_get (events_entries at (map (λ (event : List ℕ). map g event) events)) 0) []) 0 ≡ None → ⊥
 none_at g headers [] at each some e = omega (arith, some)

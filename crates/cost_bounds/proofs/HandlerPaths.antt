@@ -13,9 +13,7 @@ use Rattle.cat_machine.specs.ClassOf.{class_of}
 use Rattle.cat_machine.specs.CodeValue.{CodeValue}
 use Rattle.cat_machine.specs.Code.{expr_code, operands_code, simple_instr, body_code}
 use Rattle.cat_machine.specs.Costs.{Costs, code_cost, instr_cost, place_cost, path_cost, simple_cost, test_cost, handler_most}
-use Rattle.cat_machine.proofs.At.{HasAt, has_front, has_rest}
-use Rattle.cat_machine.proofs.Sizes.{operands_length, body_length}
-use Rattle.cat_machine.proofs.Expressions.{expr_length}
+use Rattle.cat_machine.specs.LaidOut.{HasAt, CodeIsLaidOut}
 use Rattle.cost_bounds.specs.Paths.{is_turn, LeadsTo, turn_follows, HandlerFrom, Ends, LeadsOn}
 use Rattle.cost_bounds.proofs.TaskPaths.{works_out, AllWorkOut, expr_works_out, operands_work_out}
 
@@ -159,24 +157,24 @@ module _ (u : Costs) (code : CodeValue) where
       comes_as (at + 1 + k) (at + n) left path (u (class_of y) + code_cost u xs) (code_cost u (y ∷ xs)) place (omega arith)
       (comes_on (at + 1) (at + 1 + k) left path (u (class_of y)) (code_cost u xs) first (worked_comes xs x (at + 1) k left first.rest has.1 all.1 refl e' none first.is))
 
-  simple_comes : (s : Simple) (at : ℕ) (left path : List ℕ) → HasAt code.instrs at (operands_code s) → slice_get code.instrs (at + operands_size s) ≡ Some (simple_instr s) → HandlerFrom code at left path → Comes (at + operands_size s + 1) left path (simple_cost u s)
-  simple_comes s at left path has e h =
+  simple_comes : CodeIsLaidOut → (s : Simple) (at : ℕ) (left path : List ℕ) → HasAt code.instrs at (operands_code s) → slice_get code.instrs (at + operands_size s) ≡ Some (simple_instr s) → HandlerFrom code at left path → Comes (at + operands_size s + 1) left path (simple_cost u s)
+  simple_comes laid s at left path has e h =
       let n = operands_size s in
-      let first = worked_comes (operands_code s) (simple_instr s) at n left path has (operands_work_out s) (operands_length s) e (simple_no_turn s) h in
+      let first = worked_comes (operands_code s) (simple_instr s) at n left path has (operands_work_out s) (laid.sizes.operands s) e (simple_no_turn s) h in
       let plain = simple_plain (turn_follows code (at + n)) s in
       let step = steps (simple_instr s) (at + n) left first.rest e plain.goes first.is in
       let r = plain.only (at + n) left step.next step.later step.leads in
       comes_on (at + n) (at + n + 1) left path (code_cost u (operands_code s)) (u (class_of (simple_instr s))) first (comes_by (simple_instr s) (at + n) (at + n + 1) left first.rest e step r.0 r.1)
 
   -- a test goes one way or the other
-  test_comes : (e : Expr) (to at : ℕ) (left path : List ℕ) → HasAt code.instrs at (expr_code e) → slice_get code.instrs (at + expr_size e) ≡ Some (i.JumpZero to) → HandlerFrom code at left path → Comes (at + expr_size e + 1) left path (test_cost u e) ⊎ Comes to left path (test_cost u e)
-  test_comes e to at left path has d h = by_way step.leads.0
+  test_comes : CodeIsLaidOut → (e : Expr) (to at : ℕ) (left path : List ℕ) → HasAt code.instrs at (expr_code e) → slice_get code.instrs (at + expr_size e) ≡ Some (i.JumpZero to) → HandlerFrom code at left path → Comes (at + expr_size e + 1) left path (test_cost u e) ⊎ Comes to left path (test_cost u e)
+  test_comes laid e to at left path has d h = by_way step.leads.0
     where
       n : ℕ
       n = expr_size e
 
       first : Comes (at + n) left path (code_cost u (expr_code e))
-      first = worked_comes (expr_code e) (i.JumpZero to) at n left path has (expr_works_out e) (expr_length e) d refl h
+      first = worked_comes (expr_code e) (i.JumpZero to) at n left path has (expr_works_out e) (laid.sizes.expr e) d refl h
 
       step : Steps (i.JumpZero to) (at + n) left first.rest
       step = steps (i.JumpZero to) (at + n) left first.rest d (λ q. cc) first.is
@@ -190,7 +188,7 @@ module _ (u : Costs) (code : CodeValue) where
       let s = steps (i.Jump to) at left path e (λ q. cc) h in
       comes_by (i.Jump to) at to left path e s s.leads.0 s.leads.1
 
-  module _ (words posts : ℕ) where
+  module _ (laid : CodeIsLaidOut) (words posts : ℕ) where
     -- the turns of a repeat, where m is the most of its body
     turns_come : (body : Body) (at m n : ℕ) (left path : List ℕ) → slice_get code.instrs at ≡ Some (i.Turn (at + 1 + body_size body + 1)) → slice_get code.instrs (at + 1 + body_size body) ≡ Some (i.Jump at)
         → ((more p : List ℕ) → HandlerFrom code (at + 1) more p → Comes (at + 1 + body_size body) more p m)
@@ -222,8 +220,8 @@ module _ (u : Costs) (code : CodeValue) where
         record { rest = path; is = subst (λ z. HandlerFrom code z left path) here h; sums = omega arith }
     body_comes (Plain b p simple rest) d at left path has works h =
         let n = operands_size simple in
-        let after = has_rest code.instrs at (at + n) (operands_code simple) (simple_instr simple ∷ body_code (at + n + 1) rest) (ap (λ j. at + j) (operands_length simple)) has in
-        let first = simple_comes simple at left path (has_front code.instrs at (operands_code simple) (simple_instr simple ∷ body_code (at + n + 1) rest) has) after.0 h in
+        let after = laid.stands.rest code.instrs at (at + n) (operands_code simple) (simple_instr simple ∷ body_code (at + n + 1) rest) (ap (λ j. at + j) (laid.sizes.operands simple)) has in
+        let first = simple_comes laid simple at left path (laid.stands.front code.instrs at (operands_code simple) (simple_instr simple ∷ body_code (at + n + 1) rest) has) after.0 h in
         let others = body_comes rest d (at + n + 1) left first.rest after.1 works.1 first.is in
         comes_as (at + n + 1 + body_size rest) (at + (n + 1 + body_size rest)) left path (simple_cost u simple + handler_most u rest) (simple_cost u simple + handler_most u rest) (omega arith) (omega arith)
         (comes_on (at + n + 1) (at + n + 1 + body_size rest) left path (simple_cost u simple) (handler_most u rest) first others)
@@ -231,12 +229,12 @@ module _ (u : Costs) (code : CodeValue) where
         let first = at + expr_size e + 1 in
         let end = first + body_size on in
         let tail = body_code first on ++ body_code end rest in
-        let after = has_rest code.instrs at (at + expr_size e) (expr_code e) (i.JumpZero end ∷ tail) (ap (λ j. at + j) (expr_length e)) has in
-        let rest_at = has_rest code.instrs first end (body_code first on) (body_code end rest) (ap (λ j. first + j) (body_length on first)) after.1 in
+        let after = laid.stands.rest code.instrs at (at + expr_size e) (expr_code e) (i.JumpZero end ∷ tail) (ap (λ j. at + j) (laid.sizes.expr e)) has in
+        let rest_at = laid.stands.rest code.instrs first end (body_code first on) (body_code end rest) (ap (λ j. first + j) (laid.sizes.body on first)) after.1 in
         let last = at + (expr_size e + 1 + body_size on + body_size rest) in
         let all = test_cost u e + handler_most u on + handler_most u rest in
         let through : Comes first left path (test_cost u e) → Comes last left path all = λ c.
-        let within = body_comes on d first left c.rest (has_front code.instrs first (body_code first on) (body_code end rest) after.1) works.1 c.is in
+        let within = body_comes on d first left c.rest (laid.stands.front code.instrs first (body_code first on) (body_code end rest) after.1) works.1 c.is in
         let both = comes_on first end left path (test_cost u e) (handler_most u on) c within in
         let others = body_comes rest d end left both.rest rest_at works.2 both.is in
         comes_as (end + body_size rest) last left path all all (omega arith) (omega arith)
@@ -245,16 +243,16 @@ module _ (u : Costs) (code : CodeValue) where
         let others = body_comes rest d end left c.rest rest_at works.2 c.is in
         comes_as (end + body_size rest) last left path (test_cost u e + handler_most u rest) all (omega arith) (omega arith)
         (comes_on end (end + body_size rest) left path (test_cost u e) (handler_most u rest) c others) in
-        ⊎_elim through past (test_comes e end at left path (has_front code.instrs at (expr_code e) (i.JumpZero end ∷ tail) has) after.0 h)
+        ⊎_elim through past (test_comes laid e end at left path (laid.stands.front code.instrs at (expr_code e) (i.JumpZero end ∷ tail) has) after.0 h)
     body_comes (Choice b p e on off rest) d at left path has works h =
         let first = at + expr_size e + 1 in
         let jump = first + body_size on in
         let second = jump + 1 in
         let end = second + body_size off in
         let tail = body_code second off ++ body_code end rest in
-        let after = has_rest code.instrs at (at + expr_size e) (expr_code e) (i.JumpZero second ∷ (body_code first on ++ (i.Jump end ∷ tail))) (ap (λ j. at + j) (expr_length e)) has in
-        let jump_at = has_rest code.instrs first jump (body_code first on) (i.Jump end ∷ tail) (ap (λ j. first + j) (body_length on first)) after.1 in
-        let rest_at = has_rest code.instrs second end (body_code second off) (body_code end rest) (ap (λ j. second + j) (body_length off second)) jump_at.1 in
+        let after = laid.stands.rest code.instrs at (at + expr_size e) (expr_code e) (i.JumpZero second ∷ (body_code first on ++ (i.Jump end ∷ tail))) (ap (λ j. at + j) (laid.sizes.expr e)) has in
+        let jump_at = laid.stands.rest code.instrs first jump (body_code first on) (i.Jump end ∷ tail) (ap (λ j. first + j) (laid.sizes.body on first)) after.1 in
+        let rest_at = laid.stands.rest code.instrs second end (body_code second off) (body_code end rest) (ap (λ j. second + j) (laid.sizes.body off second)) jump_at.1 in
         let last = at + (expr_size e + 1 + body_size on + 1 + body_size off + body_size rest) in
         let most = max (handler_most u on + u Basic) (handler_most u off) in
         let all = test_cost u e + most + handler_most u rest in
@@ -263,13 +261,13 @@ module _ (u : Costs) (code : CodeValue) where
         comes_as (end + body_size rest) last left path (test_cost u e + m + handler_most u rest) all (omega arith) (omega (arith, le))
         (comes_on end (end + body_size rest) left path (test_cost u e + m) (handler_most u rest) c others) in
         let one_way : Comes first left path (test_cost u e) → Comes last left path all = λ c.
-        let within = body_comes on d first left c.rest (has_front code.instrs first (body_code first on) (i.Jump end ∷ tail) after.1) works.1 c.is in
+        let within = body_comes on d first left c.rest (laid.stands.front code.instrs first (body_code first on) (i.Jump end ∷ tail) after.1) works.1 c.is in
         let leaves = jump_comes jump end left within.rest jump_at.0 within.is in
         finish (handler_most u on + u Basic) (omega arith) (comes_on first end left path (test_cost u e) (handler_most u on + u Basic) c (comes_on jump end left c.rest (handler_most u on) (u Basic) within leaves)) in
         let other_way : Comes second left path (test_cost u e) → Comes last left path all = λ c.
-        let within = body_comes off d second left c.rest (has_front code.instrs second (body_code second off) (body_code end rest) jump_at.1) works.2 c.is in
+        let within = body_comes off d second left c.rest (laid.stands.front code.instrs second (body_code second off) (body_code end rest) jump_at.1) works.2 c.is in
         finish (handler_most u off) (omega arith) (comes_on second end left path (test_cost u e) (handler_most u off) c within) in
-        ⊎_elim one_way other_way (test_comes e second at left path (has_front code.instrs at (expr_code e) (i.JumpZero second ∷ (body_code first on ++ (i.Jump end ∷ tail))) has) after.0 h)
+        ⊎_elim one_way other_way (test_comes laid e second at left path (laid.stands.front code.instrs at (expr_code e) (i.JumpZero second ∷ (body_code first on ++ (i.Jump end ∷ tail))) has) after.0 h)
     body_comes (Loop b p e body rest) d at left path has works h = absurd works
     body_comes (Turns b p n body rest) d at left path has works h =
         let turn = at + 1 in
@@ -280,8 +278,8 @@ module _ (u : Costs) (code : CodeValue) where
         let s = steps (i.Push (pos n)) at left path has.0 (λ q. cc) h in
         let opens = subst (λ z. LeadsTo z (i.Push (pos n)) at left s.next s.later) (ap is_turn has.1.0) s.leads in
         let in_turn = subst (λ z. HandlerFrom code z (n ∷ left) s.rest) opens.0 (subst (λ z. HandlerFrom code s.next z s.rest) opens.1 s.is) in
-        let jump_at = has_rest code.instrs first jump (body_code first body) (i.Jump (at + 1) ∷ body_code end rest) (ap (λ j. first + j) (body_length body first)) (subst (λ z. HasAt code.instrs z (body_code first body ++ (i.Jump (at + 1) ∷ body_code end rest))) (sym places) has.1.1) in
-        let body_at = has_front code.instrs first (body_code first body) (i.Jump (at + 1) ∷ body_code end rest) (subst (λ z. HasAt code.instrs z (body_code first body ++ (i.Jump (at + 1) ∷ body_code end rest))) (sym places) has.1.1) in
+        let jump_at = laid.stands.rest code.instrs first jump (body_code first body) (i.Jump (at + 1) ∷ body_code end rest) (ap (λ j. first + j) (laid.sizes.body body first)) (subst (λ z. HasAt code.instrs z (body_code first body ++ (i.Jump (at + 1) ∷ body_code end rest))) (sym places) has.1.1) in
+        let body_at = laid.stands.front code.instrs first (body_code first body) (i.Jump (at + 1) ∷ body_code end rest) (subst (λ z. HasAt code.instrs z (body_code first body ++ (i.Jump (at + 1) ∷ body_code end rest))) (sym places) has.1.1) in
         let within : (more p : List ℕ) → HandlerFrom code (turn + 1) more p → Comes (turn + 1 + body_size body) more p (handler_most u body) =
         λ more p k. comes_as (first + body_size body) (turn + 1 + body_size body) more p (handler_most u body) (handler_most u body) (omega arith) (omega arith) (body_comes body (d + 1) first more p body_at works.2 (subst (λ z. HandlerFrom code z more p) (sym places) k)) in
         let jump_is : jump ≡ turn + 1 + body_size body = omega arith in
@@ -321,18 +319,18 @@ module _ (u : Costs) (code : CodeValue) where
       let first = made_by y at (at + 1) left left others.path has.0 leads others.is in
       made_on at left others.path (code_cost u xs) (u (class_of y)) (code_cost u (y ∷ xs)) first rest others.sums refl
 
-  simple_made : (s : Simple) (at : ℕ) (left rest : List ℕ) → HasAt code.instrs at (operands_code s) → slice_get code.instrs (at + operands_size s) ≡ Some (simple_instr s) → HandlerFrom code (at + operands_size s + 1) left rest → Made at left rest (simple_cost u s)
-  simple_made s at left rest has e h =
+  simple_made : CodeIsLaidOut → (s : Simple) (at : ℕ) (left rest : List ℕ) → HasAt code.instrs at (operands_code s) → slice_get code.instrs (at + operands_size s) ≡ Some (simple_instr s) → HandlerFrom code (at + operands_size s + 1) left rest → Made at left rest (simple_cost u s)
+  simple_made laid s at left rest has e h =
       let n = operands_size s in
       let last = made_by (simple_instr s) (at + n) (at + n + 1) left left rest e ((simple_plain (turn_follows code (at + n)) s).leads (at + n) left) h in
-      let first = worked_made (operands_code s) (simple_instr s) at n left last.path has (operands_work_out s) (operands_length s) e (simple_no_turn s) last.is in
+      let first = worked_made (operands_code s) (simple_instr s) at n left last.path has (operands_work_out s) (laid.sizes.operands s) e (simple_no_turn s) last.is in
       made_on at left last.path (u (class_of (simple_instr s))) (code_cost u (operands_code s)) (simple_cost u s) first rest last.sums refl
 
-  test_made : (e : Expr) (to at next : ℕ) (left rest : List ℕ) → HasAt code.instrs at (expr_code e) → slice_get code.instrs (at + expr_size e) ≡ Some (i.JumpZero to) → ((next ≡ to) ⊎ (next ≡ at + expr_size e + 1)) → HandlerFrom code next left rest → Made at left rest (test_cost u e)
-  test_made e to at next left rest has d way h =
+  test_made : CodeIsLaidOut → (e : Expr) (to at next : ℕ) (left rest : List ℕ) → HasAt code.instrs at (expr_code e) → slice_get code.instrs (at + expr_size e) ≡ Some (i.JumpZero to) → ((next ≡ to) ⊎ (next ≡ at + expr_size e + 1)) → HandlerFrom code next left rest → Made at left rest (test_cost u e)
+  test_made laid e to at next left rest has d way h =
       let n = expr_size e in
       let last = made_by (i.JumpZero to) (at + n) next left left rest d (way, refl) h in
-      let first = worked_made (expr_code e) (i.JumpZero to) at n left last.path has (expr_works_out e) (expr_length e) d refl last.is in
+      let first = worked_made (expr_code e) (i.JumpZero to) at n left last.path has (expr_works_out e) (laid.sizes.expr e) d refl last.is in
       made_on at left last.path (u Basic) (code_cost u (expr_code e)) (test_cost u e) first rest last.sums refl
 
   turns_made : (body : Body) (at m n : ℕ) (left rest : List ℕ) → slice_get code.instrs at ≡ Some (i.Turn (at + 1 + body_size body + 1)) → slice_get code.instrs (at + 1 + body_size body) ≡ Some (i.Jump at)
@@ -353,28 +351,28 @@ module _ (u : Costs) (code : CodeValue) where
       one_more : (k n : ℕ) → suc n * k ≡ k + n * k
       one_more k n = omega arith
 
-  module _ (words posts : ℕ) where
+  module _ (laid : CodeIsLaidOut) (words posts : ℕ) where
     pub body_made : (body : Body) (d at : ℕ) (left rest : List ℕ) → HasAt code.instrs at (body_code at body) → EventWorks words posts d body → HandlerFrom code (at + body_size body) left rest → Made at left rest (handler_most u body)
     body_made Empty d at left rest has works h =
         let here : at + 0 ≡ at = omega arith in
         record { path = rest; is = subst (λ z. HandlerFrom code z left rest) here h; sums = omega arith }
     body_made (Plain b p simple more) d at left rest has works h =
         let n = operands_size simple in
-        let after = has_rest code.instrs at (at + n) (operands_code simple) (simple_instr simple ∷ body_code (at + n + 1) more) (ap (λ j. at + j) (operands_length simple)) has in
+        let after = laid.stands.rest code.instrs at (at + n) (operands_code simple) (simple_instr simple ∷ body_code (at + n + 1) more) (ap (λ j. at + j) (laid.sizes.operands simple)) has in
         let last : at + (n + 1 + body_size more) ≡ at + n + 1 + body_size more = omega arith in
         let others = body_made more d (at + n + 1) left rest after.1 works.1 (subst (λ z. HandlerFrom code z left rest) last h) in
-        let first = simple_made simple at left others.path (has_front code.instrs at (operands_code simple) (simple_instr simple ∷ body_code (at + n + 1) more) has) after.0 others.is in
+        let first = simple_made laid simple at left others.path (laid.stands.front code.instrs at (operands_code simple) (simple_instr simple ∷ body_code (at + n + 1) more) has) after.0 others.is in
         made_on at left others.path (handler_most u more) (simple_cost u simple) (simple_cost u simple + handler_most u more) first rest others.sums refl
     body_made (When b p e on more) d at left rest has works h =
         let first = at + expr_size e + 1 in
         let end = first + body_size on in
         let tail = body_code first on ++ body_code end more in
-        let after = has_rest code.instrs at (at + expr_size e) (expr_code e) (i.JumpZero end ∷ tail) (ap (λ j. at + j) (expr_length e)) has in
-        let more_at = has_rest code.instrs first end (body_code first on) (body_code end more) (ap (λ j. first + j) (body_length on first)) after.1 in
+        let after = laid.stands.rest code.instrs at (at + expr_size e) (expr_code e) (i.JumpZero end ∷ tail) (ap (λ j. at + j) (laid.sizes.expr e)) has in
+        let more_at = laid.stands.rest code.instrs first end (body_code first on) (body_code end more) (ap (λ j. first + j) (laid.sizes.body on first)) after.1 in
         let last : at + (expr_size e + 1 + body_size on + body_size more) ≡ end + body_size more = omega arith in
         let others = body_made more d end left rest more_at works.2 (subst (λ z. HandlerFrom code z left rest) last h) in
-        let within = body_made on d first left others.path (has_front code.instrs first (body_code first on) (body_code end more) after.1) works.1 others.is in
-        let test = test_made e end at first left within.path (has_front code.instrs at (expr_code e) (i.JumpZero end ∷ tail) has) after.0 (inr refl) within.is in
+        let within = body_made on d first left others.path (laid.stands.front code.instrs first (body_code first on) (body_code end more) after.1) works.1 others.is in
+        let test = test_made laid e end at first left within.path (laid.stands.front code.instrs at (expr_code e) (i.JumpZero end ∷ tail) has) after.0 (inr refl) within.is in
         record { path = test.path; is = test.is; sums = omega (arith, test.sums, within.sums, others.sums) }
     body_made (Choice b p e on off more) d at left rest has works h =
         let first = at + expr_size e + 1 in
@@ -382,21 +380,21 @@ module _ (u : Costs) (code : CodeValue) where
         let second = jump + 1 in
         let end = second + body_size off in
         let tail = body_code second off ++ body_code end more in
-        let after = has_rest code.instrs at (at + expr_size e) (expr_code e) (i.JumpZero second ∷ (body_code first on ++ (i.Jump end ∷ tail))) (ap (λ j. at + j) (expr_length e)) has in
-        let jump_at = has_rest code.instrs first jump (body_code first on) (i.Jump end ∷ tail) (ap (λ j. first + j) (body_length on first)) after.1 in
-        let more_at = has_rest code.instrs second end (body_code second off) (body_code end more) (ap (λ j. second + j) (body_length off second)) jump_at.1 in
+        let after = laid.stands.rest code.instrs at (at + expr_size e) (expr_code e) (i.JumpZero second ∷ (body_code first on ++ (i.Jump end ∷ tail))) (ap (λ j. at + j) (laid.sizes.expr e)) has in
+        let jump_at = laid.stands.rest code.instrs first jump (body_code first on) (i.Jump end ∷ tail) (ap (λ j. first + j) (laid.sizes.body on first)) after.1 in
+        let more_at = laid.stands.rest code.instrs second end (body_code second off) (body_code end more) (ap (λ j. second + j) (laid.sizes.body off second)) jump_at.1 in
         let last : at + (expr_size e + 1 + body_size on + 1 + body_size off + body_size more) ≡ end + body_size more = omega arith in
-        let test_at = has_front code.instrs at (expr_code e) (i.JumpZero second ∷ (body_code first on ++ (i.Jump end ∷ tail))) has in
+        let test_at = laid.stands.front code.instrs at (expr_code e) (i.JumpZero second ∷ (body_code first on ++ (i.Jump end ∷ tail))) has in
         let others = body_made more d end left rest more_at works.3 (subst (λ z. HandlerFrom code z left rest) last h) in
         let most = test_cost u e + max (handler_most u on + u Basic) (handler_most u off) + handler_most u more in
         let one_way : handler_most u off < handler_most u on + u Basic → Made at left rest most = λ lt.
         let leaves = made_by (i.Jump end) jump end left left others.path jump_at.0 (refl, refl) others.is in
-        let within = body_made on d first left leaves.path (has_front code.instrs first (body_code first on) (i.Jump end ∷ tail) after.1) works.1 leaves.is in
-        let test = test_made e second at first left within.path test_at after.0 (inr refl) within.is in
+        let within = body_made on d first left leaves.path (laid.stands.front code.instrs first (body_code first on) (i.Jump end ∷ tail) after.1) works.1 leaves.is in
+        let test = test_made laid e second at first left within.path test_at after.0 (inr refl) within.is in
         record { path = test.path; is = test.is; sums = omega (arith, test.sums, within.sums, leaves.sums, others.sums, lt) } in
         let other_way : handler_most u on + u Basic ≤ handler_most u off → Made at left rest most = λ le.
-        let within = body_made off d second left others.path (has_front code.instrs second (body_code second off) (body_code end more) jump_at.1) works.2 others.is in
-        let test = test_made e second at second left within.path test_at after.0 (inl refl) within.is in
+        let within = body_made off d second left others.path (laid.stands.front code.instrs second (body_code second off) (body_code end more) jump_at.1) works.2 others.is in
+        let test = test_made laid e second at second left within.path test_at after.0 (inl refl) within.is in
         record { path = test.path; is = test.is; sums = omega (arith, test.sums, within.sums, others.sums, le) } in
         ⊎_elim one_way other_way (cases_lt (handler_most u off) (handler_most u on + u Basic))
     body_made (Loop b p e body more) d at left rest has works h = absurd works
@@ -407,8 +405,8 @@ module _ (u : Costs) (code : CodeValue) where
         let end = jump + 1 in
         let places : turn + 1 ≡ at + 2 = omega arith in
         let inside = subst (λ z. HasAt code.instrs z (body_code first body ++ (i.Jump turn ∷ body_code end more))) places has.1.1 in
-        let jump_at = has_rest code.instrs first jump (body_code first body) (i.Jump turn ∷ body_code end more) (ap (λ j. first + j) (body_length body first)) inside in
-        let body_at = has_front code.instrs first (body_code first body) (i.Jump turn ∷ body_code end more) inside in
+        let jump_at = laid.stands.rest code.instrs first jump (body_code first body) (i.Jump turn ∷ body_code end more) (ap (λ j. first + j) (laid.sizes.body body first)) inside in
+        let body_at = laid.stands.front code.instrs first (body_code first body) (i.Jump turn ∷ body_code end more) inside in
         let jump_is : jump ≡ turn + 1 + body_size body = omega arith in
         let within : (others p : List ℕ) → HandlerFrom code (turn + 1 + body_size body) others p → Made (turn + 1) others p (handler_most u body) =
         λ others p k. subst (λ z. Made z others p (handler_most u body)) (sym places) (body_made body (d + 1) first others p body_at works.2 (subst (λ z. HandlerFrom code z others p) (sym jump_is) k)) in

@@ -1,5 +1,6 @@
 pub mod TaskPaths
 pub mod HandlerPaths
+pub mod Runs
 pub mod Programs
 pub mod Known
 pub mod KnownJobs

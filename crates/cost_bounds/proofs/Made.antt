@@ -14,10 +14,7 @@ use Rattle.cat_machine.specs.CodeValue.{CodeValue, EntryAt}
 use Rattle.cat_machine.specs.Code.{body_code, tasks_code, events_code, versions_entries, events_entries, code_of}
 use Rattle.cat_machine.specs.Costs.{Costs, instr_cost, place_cost, path_cost, tasks_most, handler_most}
 use Rattle.std.proofs.lemmas.List.{length-map}
-use Rattle.cat_machine.proofs.At.{HasAt, has_all, has_front, has_rest}
-use Rattle.cat_machine.proofs.Sizes.{body_length}
-use Rattle.cat_machine.proofs.Bounds.{one_each, tasks_le, handler_ones}
-use Rattle.cat_machine.proofs.Entering.{version_stands, tasks_code_length}
+use Rattle.cat_machine.specs.LaidOut.{HasAt, one_each, CodeIsLaidOut}
 use Rattle.cost_bounds.specs.declared.job.Job.{Job}
 use Rattle.cost_bounds.specs.BoundsValue.{BoundsValue, job_at}
 use Rattle.cost_bounds.specs.Paths.{SectionFrom, Acts, GoesOn, IsSection, IsHandler}
@@ -58,25 +55,25 @@ greatest_small is_path u p m n small a b =
     let none : (((path : List ℕ) → is_path path → ⊥) × (m ≡ 0)) → m ≤ 1000000 * n = λ r. omega (arith, r.1) in
     ⊎_elim some none a.reached
 
-handler_small : (u : Costs) (p : Checked) → IsChecked p → Small u → (event version entry : ℕ) → EntryAt (code_of p) event version entry → handler_most u (version_at p event version) + u Basic ≤ 1000000000000
-handler_small u p checked small event version entry at =
+handler_small : CodeIsLaidOut → (u : Costs) (p : Checked) → IsChecked p → Small u → (event version entry : ℕ) → EntryAt (code_of p) event version entry → handler_most u (version_at p event version) + u Basic ≤ 1000000000000
+handler_small laid u p checked small event version entry at =
     let body = version_at p event version in
-    let stands = version_stands p checked event version entry at in
-    let le = greatest_small (IsHandler p event version) u p (handler_most u body + u Basic) (handler_most one_each body + 1) small (handler_greatest u p checked event version entry at) (handler_greatest one_each p checked event version entry at) in
-    omega (arith, le, handler_ones body, stands.works.short)
+    let stands = laid.stands.version p checked event version entry at in
+    let le = greatest_small (IsHandler p event version) u p (handler_most u body + u Basic) (handler_most one_each body + 1) small (handler_greatest laid u p checked event version entry at) (handler_greatest laid one_each p checked event version entry at) in
+    omega (arith, le, laid.ones.handler body, stands.works.short)
 
 -- ---- handlers
 
-handler_is : (u : Costs) (p : Checked) (m : ℕ) → IsChecked p → Small u → (event version entry : ℕ) → EntryAt (code_of p) event version entry → IsWorth u (code_of p) entry m → m ≡ handler_most u (version_at p event version) + u Basic
-handler_is u p m checked small event version entry at known =
+handler_is : CodeIsLaidOut → (u : Costs) (p : Checked) (m : ℕ) → IsChecked p → Small u → (event version entry : ℕ) → EntryAt (code_of p) event version entry → IsWorth u (code_of p) entry m → m ≡ handler_most u (version_at p event version) + u Basic
+handler_is laid u p m checked small event version entry at known =
     let code = code_of p in
     let body = version_at p event version in
-    let stands = version_stands p checked event version entry at in
+    let stands = laid.stands.version p checked event version entry at in
     let end = entry + body_size body in
-    let body_at = has_front code.instrs entry (body_code entry body) (i.End ∷ []) stands.code_at in
-    let ends_at = (has_rest code.instrs entry end (body_code entry body) (i.End ∷ []) (ap (λ j. entry + j) (body_length body entry)) stands.code_at).0 in
-    let worth = body_worth u code (length p.words) (length p.tasks) body 0 entry (u Basic) body_at stands.works.works (AtEnd ends_at) in
-    known.by (handler_most u body + u Basic) worth (omega (arith, handler_small u p checked small event version entry at))
+    let body_at = laid.stands.front code.instrs entry (body_code entry body) (i.End ∷ []) stands.code_at in
+    let ends_at = (laid.stands.rest code.instrs entry end (body_code entry body) (i.End ∷ []) (ap (λ j. entry + j) (laid.sizes.body body entry)) stands.code_at).0 in
+    let worth = body_worth u code laid (length p.words) (length p.tasks) body 0 entry (u Basic) body_at stands.works.works (AtEnd ends_at) in
+    known.by (handler_most u body + u Basic) worth (omega (arith, handler_small laid u p checked small event version entry at))
 
 -- ---- sections
 
@@ -107,16 +104,16 @@ whole_of u end code pc path (GoesOn {path = q} x e t rest) =
     let w = whole_of u end code _ q rest in
     record { is = GoesOn x found t w.is; sums = omega (arith, ap (instr_cost u) e, ap (instr_cost u) found, w.sums); long = omega (arith, ap (instr_cost one_each) e, w.long) }
 
-front_is : (p : Checked) → (front_of (tasks_size (bodies_of p)) (code_of p)).instrs ≡ tasks_code 0 0 (bodies_of p)
+front_is : CodeIsLaidOut → (p : Checked) → (front_of (tasks_size (bodies_of p)) (code_of p)).instrs ≡ tasks_code 0 0 (bodies_of p)
 unfolding code_of
-front_is p = take_front (tasks_code 0 0 (bodies_of p)) (events_code (tasks_size (bodies_of p)) (versions_of p)) (tasks_size (bodies_of p)) (tasks_code_length (bodies_of p) 0 0)
+front_is laid p = take_front (tasks_code 0 0 (bodies_of p)) (events_code (tasks_size (bodies_of p)) (versions_of p)) (tasks_size (bodies_of p)) (laid.sizes.tasks (bodies_of p) 0 0)
 
-front_stands : (p : Checked) → HasAt (front_of (tasks_size (bodies_of p)) (code_of p)).instrs 0 (tasks_code 0 0 (bodies_of p))
-front_stands p =
+front_stands : CodeIsLaidOut → (p : Checked) → HasAt (front_of (tasks_size (bodies_of p)) (code_of p)).instrs 0 (tasks_code 0 0 (bodies_of p))
+front_stands laid p =
     let xs = tasks_code 0 0 (bodies_of p) in
-    subst (λ l. HasAt l 0 xs) (sym (front_is p)) (subst (λ l. HasAt l 0 xs) (append-nil xs) (has_all xs [] []))
+    subst (λ l. HasAt l 0 xs) (sym (front_is laid p)) (subst (λ l. HasAt l 0 xs) (append-nil xs) (laid.stands.all xs [] []))
 
-module _ (u : Costs) (p : Checked) (checked : IsChecked p) (small : Small u) where
+module _ (laid : CodeIsLaidOut) (u : Costs) (p : Checked) (checked : IsChecked p) (small : Small u) where
   abbrev Size : ℕ
   Size = tasks_size (bodies_of p)
 
@@ -124,7 +121,7 @@ module _ (u : Costs) (p : Checked) (checked : IsChecked p) (small : Small u) whe
   Front = front_of Size (code_of p)
 
   front_places : (v : Costs) → Most v Front 0 (0 + Size) (tasks_most v (bodies_of p))
-  front_places v = tasks_places v Front (length p.words) (length p.tasks) (bodies_of p) 0 0 (front_stands p) checked.tasks_work
+  front_places v = tasks_places v Front laid (length p.words) (length p.tasks) (bodies_of p) 0 0 (front_stands laid p) checked.tasks_work
 
   -- the section from a place of the tasks' code
   record Found (pc m : ℕ) : Type 0 where
@@ -139,8 +136,8 @@ module _ (u : Costs) (p : Checked) (checked : IsChecked p) (small : Small u) whe
       let same = one_section Front pc r.1.path one.1.path r.1.is one.1.is in
       let w = whole_of u Size (code_of p) pc r.1.path r.1.is in
       let ones = ap (λ l. path_cost (place_cost one_each Front) l) same in
-      let few : length r.1.path ≤ Size = omega (arith, w.long, ones, one.1.sums, one.2, tasks_le (bodies_of p)) in
-      let long : length Front.instrs ≡ Size = ap length (front_is p) ∙ tasks_code_length (bodies_of p) 0 0 in
+      let few : length r.1.path ≤ Size = omega (arith, w.long, ones, one.1.sums, one.2, laid.ones.tasks (bodies_of p)) in
+      let long : length Front.instrs ≡ Size = ap length (front_is laid p) ∙ laid.sizes.tasks (bodies_of p) 0 0 in
       let le = path_small u Front small r.1.path in
       let is = known.by r.1.path r.1.is (omega (arith, few, long)) (omega (arith, le, w.long, few, checked.short)) in
       record { path = r.1.path; is = w.is; sums = omega (arith, w.sums, is) }
@@ -228,7 +225,7 @@ entries_lengths f (event ∷ events) at =
     of_event [] at = refl
     of_event (body ∷ bodies) at = ap suc (of_event bodies (at + version_size body))
 
-module _ (p : Checked) (device : Device) (lines : ℕ) (fits : lines < 4294967296) (checked : IsChecked p) where
+module _ (laid : CodeIsLaidOut) (p : Checked) (device : Device) (lines : ℕ) (fits : lines < 4294967296) (checked : IsChecked p) where
   whole_is : (job around handler : Job) → around ≡ around_job device lines → job ≡ plus_capped around handler → handler.units ≤ 1000000000000 → handler.ticks ≤ 1000000000000 → job ≡ whole_job device lines handler
   whole_is job around handler around_is job_is few_units few_ticks =
       let all = job_is ∙ ap (λ j. plus_capped j handler) around_is in
@@ -260,15 +257,15 @@ module _ (p : Checked) (device : Device) (lines : ℕ) (fits : lines < 429496729
         let after = entries_after (versions_of p) (tasks_size (bodies_of p)) event version entry (ap (λ l. slice_get (unwrap_or (slice_get l event) []) version) (sym (program_versions p)) ∙ r.1) in
         let known = (made.known entry (omega arith)).handler after in
         let handler = job_in made.most entry in
-        let units_are = handler_is (units_of device) p handler.units checked (units_small device) event version entry r.1 known.units in
-        let ticks_are = handler_is (ticks_of device) p handler.ticks checked (ticks_small device) event version entry r.1 known.ticks in
+        let units_are = handler_is laid (units_of device) p handler.units checked (units_small device) event version entry r.1 known.units in
+        let ticks_are = handler_is laid (ticks_of device) p handler.ticks checked (ticks_small device) event version entry r.1 known.ticks in
         record {
           handler = handler;
           greatest = record {
-            units = subst (IsGreatest (IsHandler p event version) (sum_over (units_of device) p)) (sym units_are) (handler_greatest (units_of device) p checked event version entry r.1);
-            ticks = subst (IsGreatest (IsHandler p event version) (sum_over (ticks_of device) p)) (sym ticks_are) (handler_greatest (ticks_of device) p checked event version entry r.1);
+            units = subst (IsGreatest (IsHandler p event version) (sum_over (units_of device) p)) (sym units_are) (handler_greatest laid (units_of device) p checked event version entry r.1);
+            ticks = subst (IsGreatest (IsHandler p event version) (sum_over (ticks_of device) p)) (sym ticks_are) (handler_greatest laid (ticks_of device) p checked event version entry r.1);
           };
-          whole = whole_is job around handler refl (sym r.2) (omega (arith, units_are, handler_small (units_of device) p checked (units_small device) event version entry r.1)) (omega (arith, ticks_are, handler_small (ticks_of device) p checked (ticks_small device) event version entry r.1));
+          whole = whole_is job around handler refl (sym r.2) (omega (arith, units_are, handler_small laid (units_of device) p checked (units_small device) event version entry r.1)) (omega (arith, ticks_are, handler_small laid (ticks_of device) p checked (ticks_small device) event version entry r.1));
         }
 
     pub are_bounds : AreBounds p device lines b
@@ -279,12 +276,12 @@ module _ (p : Checked) (device : Device) (lines : ℕ) (fits : lines < 429496729
           versions = ap (map length) made.jobs ∙ mapped_lengths (entry_job (around_job device lines) made.most) (code_of p).versions ∙ ap (map length) (program_versions p) ∙ entries_lengths (tree_of p.blocks) p.events size;
           jobs = version_job;
           section = record {
-            units = section_top (units_of device) p checked (units_small device) (λ j. j.units) made.most b.section.units (λ pc lt. ((made.known pc (omega arith)).section lt).units) all made.section.units;
-            ticks = section_top (ticks_of device) p checked (ticks_small device) (λ j. j.ticks) made.most b.section.ticks (λ pc lt. ((made.known pc (omega arith)).section lt).ticks) all made.section.ticks;
+            units = section_top laid (units_of device) p checked (units_small device) (λ j. j.units) made.most b.section.units (λ pc lt. ((made.known pc (omega arith)).section lt).units) all made.section.units;
+            ticks = section_top laid (ticks_of device) p checked (ticks_small device) (λ j. j.ticks) made.most b.section.ticks (λ pc lt. ((made.known pc (omega arith)).section lt).ticks) all made.section.ticks;
           };
           checkpoint = made.checkpoint ∙ times_is (lines + 1) (omega (arith, fits));
           wake = made.wake ∙ job_ext (cost_job device.wake) (times 1 device.wake) (omega arith) (omega arith);
         }
       where
         front_size : tasks_size (bodies_of p) ≤ length (code_of p).instrs
-        front_size = code_covers p
+        front_size = code_covers laid p

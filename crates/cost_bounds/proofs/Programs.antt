@@ -1,5 +1,5 @@
 -- The greatest sums over the paths of a program's code, and its runs.
-use Rattle.std.proofs.Common.{◌≡◌, ℕ, zero, suc, ◌+◌, ◌<◌, ◌≤◌, List, [], ◌∷◌, length, Some, None, refl, ap, ◌∙◌, subst, arith, inl, inr, ⊎_elim}
+use Rattle.std.proofs.Common.{◌≡◌, ℕ, zero, suc, ◌+◌, ◌<◌, ◌≤◌, List, [], ◌∷◌, ◌++◌, length, Some, None, refl, ap, ◌∙◌, subst, arith, inl, inr, ⊎_elim}
 use Rattle.std.specs.Prelude.{slice_get, unwrap_or, map, ℤ, ◌⊎◌}
 use Rattle.cat_program.specs.declared.syntax.Class.TheVariants.{Basic}
 use Rattle.cat_program.specs.Body.{Body, tree_of}
@@ -13,26 +13,25 @@ use Rattle.cat_machine.specs.Held.{Held}
 use Rattle.cat_machine.specs.Machine.{Ended', entered, until}
 use Rattle.cat_machine.specs.Code.{body_code, tasks_code, events_code, versions_entries, events_entries, code_of}
 use Rattle.cat_machine.specs.Costs.{Costs, tasks_most, handler_most}
-use Rattle.cat_machine.specs.Fits.{IsIdle, Stands, Idle, Within, Handling, Fits}
-use Rattle.cat_machine.proofs.At.{HasAt, has_all, has_front, has_rest}
-use Rattle.cat_machine.proofs.Sizes.{body_length}
-use Rattle.cat_machine.proofs.Spent.{spends}
-use Rattle.cat_machine.proofs.Entering.{VersionStands, version_stands}
+use Rattle.cat_machine.specs.Fits.{HasShape, IsIdle, Stands, Idle, Within, Handling, Fits}
+use Rattle.cat_machine.specs.Spending.{Spends}
+use Rattle.cat_machine.specs.LaidOut.{HasAt, VersionStands, CodeIsLaidOut}
 use Rattle.cost_bounds.specs.declared.job.Job.{Job}
 use Rattle.cost_bounds.specs.BoundsValue.{BoundsValue, HasJob, job_at}
 use Rattle.cost_bounds.specs.Paths.{IsSection, HandlerFrom, Ends, IsHandler}
 use Rattle.cost_bounds.specs.Greatest.{units_of, ticks_of, sum_over, IsGreatest, whole_job, AreBounds, IsWithin, spent, RunsWithin}
 use Rattle.cost_bounds.proofs.TaskPaths.{one_section, Sums, Most, tasks_places}
+use Rattle.cost_bounds.proofs.Runs.{front_sums}
 use Rattle.cost_bounds.proofs.HandlerPaths.{Made, at_end, body_comes, body_made}
 
 -- ---- sections
 
-pub tasks_stand : (p : Checked) → HasAt (code_of p).instrs 0 (tasks_code 0 0 (bodies_of p))
+pub tasks_stand : CodeIsLaidOut → (p : Checked) → HasAt (code_of p).instrs 0 (tasks_code 0 0 (bodies_of p))
 unfolding code_of
-tasks_stand p = has_all (tasks_code 0 0 (bodies_of p)) [] (events_code (tasks_size (bodies_of p)) (versions_of p))
+tasks_stand laid p = laid.stands.all (tasks_code 0 0 (bodies_of p)) [] (events_code (tasks_size (bodies_of p)) (versions_of p))
 
-pub section_greatest : (u : Costs) (p : Checked) → IsChecked p → IsGreatest (IsSection p) (sum_over u p) (tasks_most u (bodies_of p))
-section_greatest u p checked = record { upper = upper; reached = by_most places.reached }
+pub section_greatest : CodeIsLaidOut → (u : Costs) (p : Checked) → IsChecked p → IsGreatest (IsSection p) (sum_over u p) (tasks_most u (bodies_of p))
+section_greatest laid u p checked = record { upper = upper; reached = by_most places.reached }
   where
     size : ℕ
     size = tasks_size (bodies_of p)
@@ -41,7 +40,7 @@ section_greatest u p checked = record { upper = upper; reached = by_most places.
     most = tasks_most u (bodies_of p)
 
     places : Most u (code_of p) 0 (0 + size) most
-    places = tasks_places u (code_of p) (length p.words) (length p.tasks) (bodies_of p) 0 0 (tasks_stand p) checked.tasks_work
+    places = tasks_places u (code_of p) laid (length p.words) (length p.tasks) (bodies_of p) 0 0 (tasks_stand laid p) checked.tasks_work
 
     upper : (path : List ℕ) → IsSection p path → sum_over u p path ≤ most
     upper path s =
@@ -64,8 +63,8 @@ section_greatest u p checked = record { upper = upper; reached = by_most places.
 
 -- ---- handlers
 
-pub handler_greatest : (u : Costs) (p : Checked) → IsChecked p → (event version entry : ℕ) → EntryAt (code_of p) event version entry → IsGreatest (IsHandler p event version) (sum_over u p) (handler_most u (version_at p event version) + u Basic)
-handler_greatest u p checked event version entry at = record { upper = upper; reached = inl (made.path, record { entry = entry; enters = at; is = made.is }, omega (arith, made.sums, ended)) }
+pub handler_greatest : CodeIsLaidOut → (u : Costs) (p : Checked) → IsChecked p → (event version entry : ℕ) → EntryAt (code_of p) event version entry → IsGreatest (IsHandler p event version) (sum_over u p) (handler_most u (version_at p event version) + u Basic)
+handler_greatest laid u p checked event version entry at = record { upper = upper; reached = inl (made.path, record { entry = entry; enters = at; is = made.is }, omega (arith, made.sums, ended)) }
   where
     code : CodeValue
     code = code_of p
@@ -74,21 +73,21 @@ handler_greatest u p checked event version entry at = record { upper = upper; re
     body = version_at p event version
 
     stands : VersionStands p event version entry
-    stands = version_stands p checked event version entry at
+    stands = laid.stands.version p checked event version entry at
 
     end : ℕ
     end = entry + body_size body
 
     body_at : HasAt code.instrs entry (body_code entry body)
-    body_at = has_front code.instrs entry (body_code entry body) (i.End ∷ []) stands.code_at
+    body_at = laid.stands.front code.instrs entry (body_code entry body) (i.End ∷ []) stands.code_at
 
     ends_at : slice_get code.instrs end ≡ Some i.End
-    ends_at = (has_rest code.instrs entry end (body_code entry body) (i.End ∷ []) (ap (λ j. entry + j) (body_length body entry)) stands.code_at).0
+    ends_at = (laid.stands.rest code.instrs entry end (body_code entry body) (i.End ∷ []) (ap (λ j. entry + j) (laid.sizes.body body entry)) stands.code_at).0
 
     upper : (path : List ℕ) → IsHandler p event version path → sum_over u p path ≤ handler_most u body + u Basic
     upper path h =
         let same : h.entry ≡ entry = cc in
-        let c = body_comes u code (length p.words) (length p.tasks) body 0 entry [] path body_at stands.works.works (subst (λ z. HandlerFrom code z [] path) same h.is) in
+        let c = body_comes u code laid (length p.words) (length p.tasks) body 0 entry [] path body_at stands.works.works (subst (λ z. HandlerFrom code z [] path) same h.is) in
         omega (arith, c.sums, at_end u code end [] c.rest ends_at c.is)
 
     last : HandlerFrom code end [] (end ∷ [])
@@ -98,7 +97,7 @@ handler_greatest u p checked event version entry at = record { upper = upper; re
     ended = at_end u code end [] (end ∷ []) ends_at last
 
     made : Made u code entry [] (end ∷ []) (handler_most u body)
-    made = body_made u code (length p.words) (length p.tasks) body 0 entry [] (end ∷ []) body_at stands.works.works last
+    made = body_made u code laid (length p.words) (length p.tasks) body 0 entry [] (end ∷ []) body_at stands.works.works last
 
 -- ---- each version has an entry
 
@@ -150,22 +149,26 @@ idle_of p h free empty (Idle idle) = idle
 idle_of p h free empty (Within none long runs) = absurd (omega (arith, long, ap length empty))
 idle_of p h free empty (Handling kept e runs) = cc
 
-pub runs_within : (p : Checked) (device : Device) (lines : ℕ) (b : BoundsValue) (h : Held) → AreBounds p device lines b → Fits p (code_of p) h → h.kept ≡ None → h.stack ≡ [] → RunsWithin p device lines b h
-runs_within p device lines b h bounds fits free empty = record { section = section; handler = handler }
+-- what the law of spending says
+abbrev Spending : Type 0
+Spending = (u : Costs) (p : Checked) (h : Held) → IsChecked p → IsIdle p h → HasShape (length p.words) (length p.tasks) h → Spends u p h
+
+pub runs_within : CodeIsLaidOut → Spending → (p : Checked) (device : Device) (lines : ℕ) (b : BoundsValue) (h : Held) → AreBounds p device lines b → Fits p (code_of p) h → h.kept ≡ None → h.stack ≡ [] → RunsWithin p device lines b h
+runs_within laid spends p device lines b h bounds fits free empty = record { section = section; handler = handler; section_part = section_part; handler_part = handler_part }
   where
     idle : IsIdle p h
     idle = idle_of p h free empty fits.stands
 
     section : (run : Ended') → until 1000000 Task (code_of p) h ≡ Some run → IsWithin (spent device p run.path) b.section
     section run e = record {
-      units = omega (arith, (spends (units_of device) p h fits.checked idle fits.shape).section run e, at_most (IsSection p) (sum_over (units_of device) p) (tasks_most (units_of device) (bodies_of p)) b.section.units (section_greatest (units_of device) p fits.checked) bounds.section.units);
-      ticks = omega (arith, (spends (ticks_of device) p h fits.checked idle fits.shape).section run e, at_most (IsSection p) (sum_over (ticks_of device) p) (tasks_most (ticks_of device) (bodies_of p)) b.section.ticks (section_greatest (ticks_of device) p fits.checked) bounds.section.ticks);
+      units = omega (arith, (spends (units_of device) p h fits.checked idle fits.shape).section run e, at_most (IsSection p) (sum_over (units_of device) p) (tasks_most (units_of device) (bodies_of p)) b.section.units (section_greatest laid (units_of device) p fits.checked) bounds.section.units);
+      ticks = omega (arith, (spends (ticks_of device) p h fits.checked idle fits.shape).section run e, at_most (IsSection p) (sum_over (ticks_of device) p) (tasks_most (ticks_of device) (bodies_of p)) b.section.ticks (section_greatest laid (ticks_of device) p fits.checked) bounds.section.ticks);
     }
 
     least : (u : Costs) (event version entry : ℕ) (payload : ℤ) (run : Ended') (m : ℕ) → EntryAt (code_of p) event version entry → until 1000000 Handler (code_of p) (entered h entry payload) ≡ Some run → IsGreatest (IsHandler p event version) (sum_over u p) m → sum_over u p run.path ≤ m
     least u event version entry payload run m at e g =
         let most = handler_most u (version_at p event version) + u Basic in
-        omega (arith, (spends u p h fits.checked idle fits.shape).handler event version entry payload run at e, at_most (IsHandler p event version) (sum_over u p) most m (handler_greatest u p fits.checked event version entry at) g)
+        omega (arith, (spends u p h fits.checked idle fits.shape).handler event version entry payload run at e, at_most (IsHandler p event version) (sum_over u p) most m (handler_greatest laid u p fits.checked event version entry at) g)
 
     handler : (event version entry : ℕ) (payload : ℤ) (run : Ended') (job : Job) → EntryAt (code_of p) event version entry → until 1000000 Handler (code_of p) (entered h entry payload) ≡ Some run → job_at b event version ≡ Some job → IsWithin (whole_job device lines (spent device p run.path)) job
     handler event version entry payload run job at e found =
@@ -176,6 +179,20 @@ runs_within p device lines b h bounds fits free empty = record { section = secti
           units = omega (arith, units, ap (λ (x : Job). x.units) j.whole);
           ticks = omega (arith, ticks, ap (λ (x : Job). x.ticks) j.whole);
         }
+
+    part_of : (u : Costs) (path front rest : List ℕ) → path ≡ front ++ rest → sum_over u p front ≤ sum_over u p path
+    part_of u path front rest is = omega (arith, front_sums u p front rest, ap (sum_over u p) is)
+
+    section_part : (run : Ended') (front rest : List ℕ) → until 1000000 Task (code_of p) h ≡ Some run → run.path ≡ front ++ rest → IsWithin (spent device p front) b.section
+    section_part run front rest e is =
+        let whole = section run e in
+        record { units = omega (arith, whole.units, part_of (units_of device) run.path front rest is); ticks = omega (arith, whole.ticks, part_of (ticks_of device) run.path front rest is) }
+
+    handler_part : (event version entry : ℕ) (payload : ℤ) (run : Ended') (job : Job) (front rest : List ℕ) → EntryAt (code_of p) event version entry → until 1000000 Handler (code_of p) (entered h entry payload) ≡ Some run → job_at b event version ≡ Some job
+        → run.path ≡ front ++ rest → IsWithin (whole_job device lines (spent device p front)) job
+    handler_part event version entry payload run job front rest at e found is =
+        let whole = handler event version entry payload run job at e found in
+        record { units = omega (arith, whole.units, part_of (units_of device) run.path front rest is); ticks = omega (arith, whole.ticks, part_of (ticks_of device) run.path front rest is) }
 
 -- ---- each version has a job
 

@@ -13,10 +13,7 @@ use Rattle.cat_machine.specs.ClassOf.{class_of}
 use Rattle.cat_machine.specs.CodeValue.{CodeValue}
 use Rattle.cat_machine.specs.Code.{expr_code, chain_code, operands_code, simple_instr, body_code, task_code, tasks_code}
 use Rattle.cat_machine.specs.Costs.{Costs, code_cost, instr_cost, place_cost, path_cost, test_cost, first_cost, section_most, task_most, tasks_most}
-use Rattle.cat_machine.proofs.At.{HasAt, has_front, has_rest}
-use Rattle.cat_machine.proofs.Sizes.{operands_length, body_length}
-use Rattle.cat_machine.proofs.Expressions.{expr_length}
-use Rattle.cat_machine.proofs.Tasks.{task_code_length}
+use Rattle.cat_machine.specs.LaidOut.{HasAt, CodeIsLaidOut}
 use Rattle.cost_bounds.specs.Paths.{acts, place_after, SectionFrom, Acts, GoesOn}
 
 -- ---- code that only works something out
@@ -168,13 +165,13 @@ module _ (u : Costs) (code : CodeValue) where
       (s, renamed at (at + 1 + k + 1) (at + n + 1) (max m c) m (omega (arith, place)) (omega arith) (joined at (at + 1) (at + 1 + k + 1) m c (omega arith) (omega arith) (one at m s) rest.1))
 
   -- a test, and the jump that it decides
-  test_most : (e : Expr) (to at : ℕ) → HasAt code.instrs at (expr_code e) → slice_get code.instrs (at + expr_size e) ≡ Some (i.JumpZero to) → Sums at (test_cost u e) × Most at (at + expr_size e + 1) (test_cost u e)
-  test_most e to at has d = straight (expr_code e) (i.JumpZero to) at (expr_size e) has (expr_works_out e) (expr_length e) d refl
+  test_most : CodeIsLaidOut → (e : Expr) (to at : ℕ) → HasAt code.instrs at (expr_code e) → slice_get code.instrs (at + expr_size e) ≡ Some (i.JumpZero to) → Sums at (test_cost u e) × Most at (at + expr_size e + 1) (test_cost u e)
+  test_most laid e to at has d = straight (expr_code e) (i.JumpZero to) at (expr_size e) has (expr_works_out e) (laid.sizes.expr e) d refl
 
   jump_sums : (at to c : ℕ) → slice_get code.instrs at ≡ Some (i.Jump to) → Sums to c → Sums at (u Basic + c)
   jump_sums at to c e s = goes_here at c (i.Jump to) e refl s
 
-  module _ (words posts : ℕ) where
+  module _ (laid : CodeIsLaidOut) (words posts : ℕ) where
     -- a list of statements, where c is the sum from the place after it
     body_most : (body : Body) (at c : ℕ) → HasAt code.instrs at (body_code at body) → TaskWorks words posts body → Sums (at + body_size body) c → Sums at (first_cost u body c) × Most at (at + body_size body) (section_most u body c)
     body_most Empty at c has works s =
@@ -182,8 +179,8 @@ module _ (u : Costs) (code : CodeValue) where
         (sums_as (at + 0) at c c here refl s, renamed at at (at + 0) 0 0 (sym here) refl (none at))
     body_most (Plain b p simple rest) at c has works s =
         let n = operands_size simple in
-        let after = has_rest code.instrs at (at + n) (operands_code simple) (simple_instr simple ∷ body_code (at + n + 1) rest) (ap (λ j. at + j) (operands_length simple)) has in
-        let first = straight (operands_code simple) (simple_instr simple) at n (has_front code.instrs at (operands_code simple) _ has) (operands_work_out simple) (operands_length simple) after.0 (acts_simple simple) in
+        let after = laid.stands.rest code.instrs at (at + n) (operands_code simple) (simple_instr simple ∷ body_code (at + n + 1) rest) (ap (λ j. at + j) (laid.sizes.operands simple)) has in
+        let first = straight (operands_code simple) (simple_instr simple) at n (laid.stands.front code.instrs at (operands_code simple) _ has) (operands_work_out simple) (laid.sizes.operands simple) after.0 (acts_simple simple) in
         let end : at + (n + 1 + body_size rest) ≡ at + n + 1 + body_size rest = omega arith in
         let others = body_most rest (at + n + 1) c after.1 works.2 (sums_as _ _ c c end refl s) in
         (first.0, renamed at (at + n + 1 + body_size rest) (at + (n + 1 + body_size rest)) _ _ (sym end) refl (joined at (at + n + 1) (at + n + 1 + body_size rest) _ _ (omega arith) (omega arith) first.1 others.1))
@@ -191,12 +188,12 @@ module _ (u : Costs) (code : CodeValue) where
         let n = expr_size e in
         let first = at + n + 1 in
         let end = first + body_size on in
-        let after = has_rest code.instrs at (at + n) (expr_code e) (i.JumpZero end ∷ (body_code first on ++ body_code end rest)) (ap (λ j. at + j) (expr_length e)) has in
-        let test = test_most e end at (has_front code.instrs at (expr_code e) _ has) after.0 in
+        let after = laid.stands.rest code.instrs at (at + n) (expr_code e) (i.JumpZero end ∷ (body_code first on ++ body_code end rest)) (ap (λ j. at + j) (laid.sizes.expr e)) has in
+        let test = test_most laid e end at (laid.stands.front code.instrs at (expr_code e) _ has) after.0 in
         let last : at + (n + 1 + body_size on + body_size rest) ≡ end + body_size rest = omega arith in
-        let rest_at = has_rest code.instrs first end (body_code first on) (body_code end rest) (ap (λ j. first + j) (body_length on first)) after.1 in
+        let rest_at = laid.stands.rest code.instrs first end (body_code first on) (body_code end rest) (ap (λ j. first + j) (laid.sizes.body on first)) after.1 in
         let others = body_most rest end c rest_at works.2 (sums_as _ _ c c last refl s) in
-        let within = body_most on first (first_cost u rest c) (has_front code.instrs first (body_code first on) _ after.1) works.1 others.0 in (
+        let within = body_most on first (first_cost u rest c) (laid.stands.front code.instrs first (body_code first on) _ after.1) works.1 others.0 in (
           test.0,
           renamed at (end + body_size rest) _ _ _ (sym last) refl
               (joined at first (end + body_size rest) _ _ (omega arith) (omega arith) test.1 (joined first end (end + body_size rest) _ _ (omega arith) (omega arith) within.1 others.1)),
@@ -207,15 +204,15 @@ module _ (u : Costs) (code : CodeValue) where
         let jump = first + body_size on in
         let second = jump + 1 in
         let end = second + body_size off in
-        let after = has_rest code.instrs at (at + n) (expr_code e) (i.JumpZero second ∷ (body_code first on ++ (i.Jump end ∷ (body_code second off ++ body_code end rest)))) (ap (λ j. at + j) (expr_length e)) has in
-        let test = test_most e second at (has_front code.instrs at (expr_code e) _ has) after.0 in
+        let after = laid.stands.rest code.instrs at (at + n) (expr_code e) (i.JumpZero second ∷ (body_code first on ++ (i.Jump end ∷ (body_code second off ++ body_code end rest)))) (ap (λ j. at + j) (laid.sizes.expr e)) has in
+        let test = test_most laid e second at (laid.stands.front code.instrs at (expr_code e) _ has) after.0 in
         let last : at + (n + 1 + body_size on + 1 + body_size off + body_size rest) ≡ end + body_size rest = omega arith in
-        let jump_at = has_rest code.instrs first jump (body_code first on) (i.Jump end ∷ (body_code second off ++ body_code end rest)) (ap (λ j. first + j) (body_length on first)) after.1 in
-        let rest_at = has_rest code.instrs second end (body_code second off) (body_code end rest) (ap (λ j. second + j) (body_length off second)) jump_at.1 in
+        let jump_at = laid.stands.rest code.instrs first jump (body_code first on) (i.Jump end ∷ (body_code second off ++ body_code end rest)) (ap (λ j. first + j) (laid.sizes.body on first)) after.1 in
+        let rest_at = laid.stands.rest code.instrs second end (body_code second off) (body_code end rest) (ap (λ j. second + j) (laid.sizes.body off second)) jump_at.1 in
         let others = body_most rest end c rest_at works.3 (sums_as _ _ c c last refl s) in
         let leaves = jump_sums jump end (first_cost u rest c) jump_at.0 others.0 in
-        let one_way = body_most on first (u Basic + first_cost u rest c) (has_front code.instrs first (body_code first on) _ after.1) works.1 leaves in
-        let other_way = body_most off second (first_cost u rest c) (has_front code.instrs second (body_code second off) _ jump_at.1) works.2 others.0 in (
+        let one_way = body_most on first (u Basic + first_cost u rest c) (laid.stands.front code.instrs first (body_code first on) _ after.1) works.1 leaves in
+        let other_way = body_most off second (first_cost u rest c) (laid.stands.front code.instrs second (body_code second off) _ jump_at.1) works.2 others.0 in (
           test.0,
           renamed at (end + body_size rest) _ _ _ (sym last) refl
               (joined at first (end + body_size rest) _ _ (omega arith) (omega arith) test.1
@@ -228,13 +225,13 @@ module _ (u : Costs) (code : CodeValue) where
         let first = at + n + 1 in
         let jump = first + body_size body in
         let end = jump + 1 in
-        let after = has_rest code.instrs at (at + n) (expr_code e) (i.JumpZero end ∷ (body_code first body ++ (i.Jump at ∷ body_code end rest))) (ap (λ j. at + j) (expr_length e)) has in
-        let test = test_most e end at (has_front code.instrs at (expr_code e) _ has) after.0 in
+        let after = laid.stands.rest code.instrs at (at + n) (expr_code e) (i.JumpZero end ∷ (body_code first body ++ (i.Jump at ∷ body_code end rest))) (ap (λ j. at + j) (laid.sizes.expr e)) has in
+        let test = test_most laid e end at (laid.stands.front code.instrs at (expr_code e) _ has) after.0 in
         let last : at + (n + 1 + body_size body + 1 + body_size rest) ≡ end + body_size rest = omega arith in
-        let jump_at = has_rest code.instrs first jump (body_code first body) (i.Jump at ∷ body_code end rest) (ap (λ j. first + j) (body_length body first)) after.1 in
+        let jump_at = laid.stands.rest code.instrs first jump (body_code first body) (i.Jump at ∷ body_code end rest) (ap (λ j. first + j) (laid.sizes.body body first)) after.1 in
         let others = body_most rest end c jump_at.1 works.2 (sums_as _ _ c c last refl s) in
         let back = jump_sums jump at (test_cost u e) jump_at.0 test.0 in
-        let within = body_most body first (u Basic + test_cost u e) (has_front code.instrs first (body_code first body) _ after.1) works.1 back in (
+        let within = body_most body first (u Basic + test_cost u e) (laid.stands.front code.instrs first (body_code first body) _ after.1) works.1 back in (
           test.0,
           renamed at (end + body_size rest) _ _ _ (sym last) refl
               (joined at first (end + body_size rest) _ _ (omega arith) (omega arith) test.1
@@ -246,9 +243,9 @@ module _ (u : Costs) (code : CodeValue) where
     task_places : (body : Body) (at t : ℕ) → HasAt code.instrs at (task_code at t body) → TaskWorks words posts body → Most at (at + task_size body) (task_most u body)
     task_places body at t has works =
         let end = at + 1 + body_size body in
-        let end_at = has_rest code.instrs (at + 1) end (body_code (at + 1) body) (i.End ∷ []) (ap (λ j. at + 1 + j) (body_length body (at + 1))) has.1 in
+        let end_at = laid.stands.rest code.instrs (at + 1) end (body_code (at + 1) body) (i.End ∷ []) (ap (λ j. at + 1 + j) (laid.sizes.body body (at + 1))) has.1 in
         let last = acts_here end i.End end_at.0 refl in
-        let within = body_most body (at + 1) (u Basic) (has_front code.instrs (at + 1) (body_code (at + 1) body) _ has.1) works last in
+        let within = body_most body (at + 1) (u Basic) (laid.stands.front code.instrs (at + 1) (body_code (at + 1) body) _ has.1) works last in
         let begins = acts_here at (i.Begin t) has.0 refl in
         let size : end + 1 ≡ at + task_size body = omega arith in
         renamed at (end + 1) _ _ _ size (omega arith) (joined at (at + 1) (end + 1) _ _ (omega arith) (omega arith) (one at _ begins) (joined (at + 1) end (end + 1) _ _ (omega arith) (omega arith) within.1 (one end _ last)))
@@ -257,6 +254,6 @@ module _ (u : Costs) (code : CodeValue) where
     tasks_places [] at t has works = let here : at ≡ at + 0 = omega arith in renamed at at (at + 0) 0 0 here refl (none at)
     tasks_places (body ∷ bodies) at t has works =
         let next = at + task_size body in
-        let rest_at = has_rest code.instrs at next (task_code at t body) (tasks_code next (t + 1) bodies) (ap (λ j. at + j) (task_code_length at t body)) has in
+        let rest_at = laid.stands.rest code.instrs at next (task_code at t body) (tasks_code next (t + 1) bodies) (ap (λ j. at + j) (laid.sizes.task at t body)) has in
         let size : next + tasks_size bodies ≡ at + (task_size body + tasks_size bodies) = omega arith in
-        renamed at (next + tasks_size bodies) _ _ _ size refl (joined at next (next + tasks_size bodies) _ _ (omega arith) (omega arith) (task_places body at t (has_front code.instrs at (task_code at t body) _ has) works.0) (tasks_places bodies next (t + 1) rest_at works.1))
+        renamed at (next + tasks_size bodies) _ _ _ size refl (joined at next (next + tasks_size bodies) _ _ (omega arith) (omega arith) (task_places body at t (laid.stands.front code.instrs at (task_code at t body) _ has) works.0) (tasks_places bodies next (t + 1) rest_at works.1))

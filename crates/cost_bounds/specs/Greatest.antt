@@ -1,5 +1,5 @@
 -- The greatest sums over the paths of a program's code.
-use Rattle.std.specs.Prelude.{◌≡◌, ℕ, ◌+◌, ◌*◌, ◌≤◌, ◌⊎◌, ℤ, List, length, map, Some}
+use Rattle.std.specs.Prelude.{◌≡◌, ℕ, ◌+◌, ◌*◌, ◌≤◌, ◌⊎◌, ℤ, List, ◌++◌, length, map, Some}
 use Rattle.cat_program.specs.declared.syntax.Class.TheVariants.{Basic, Memory, Out}
 use Rattle.cat_program.specs.Checked.{Checked}
 use Rattle.nv_memory.specs.declared.device.Device.{Device}
@@ -73,7 +73,11 @@ pub record IsWithin (a b : Job) : Type 0 where
 abbrev pub spent : Device → Checked → List ℕ → Job
 spent device p path = record { units = sum_over (units_of device) p path; ticks = sum_over (ticks_of device) p path }
 
--- The section from a state, and each handler that is entered there, with any payload, take no more than the bounds.
+-- The section from a state, and each handler that is entered there, with any payload, take no more than the bounds. Nor
+-- does what was done of one before power went.
 pub record RunsWithin (p : Checked) (device : Device) (lines : ℕ) (b : BoundsValue) (h : Held) : Type 0 where
   pub section : (run : Ended') → until 1000000 Task (code_of p) h ≡ Some run → IsWithin (spent device p run.path) b.section
   pub handler : (event version entry : ℕ) (payload : ℤ) (run : Ended') (job : Job) → EntryAt (code_of p) event version entry → until 1000000 Handler (code_of p) (entered h entry payload) ≡ Some run → job_at b event version ≡ Some job → IsWithin (whole_job device lines (spent device p run.path)) job
+  pub section_part : (run : Ended') (front rest : List ℕ) → until 1000000 Task (code_of p) h ≡ Some run → run.path ≡ front ++ rest → IsWithin (spent device p front) b.section
+  pub handler_part : (event version entry : ℕ) (payload : ℤ) (run : Ended') (job : Job) (front rest : List ℕ) → EntryAt (code_of p) event version entry → until 1000000 Handler (code_of p) (entered h entry payload) ≡ Some run → job_at b event version ≡ Some job
+      → run.path ≡ front ++ rest → IsWithin (whole_job device lines (spent device p front)) job

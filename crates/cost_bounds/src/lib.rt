@@ -10,5 +10,5 @@ mod tests;
 mod total;
 
 pub use job::{Bounds, Job};
-pub use laws::{runs_within_law, versions_have_jobs_law};
+pub use laws::{runs_within_law, sections_are_paths, versions_have_jobs_law};
 pub use total::bounds;

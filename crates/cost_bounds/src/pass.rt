@@ -9,7 +9,7 @@ ghost use Rattle.cost_bounds.specs.Pass.{AllKnown, PlaceKnown};
 
 use crate::job::Job;
 use crate::place::{handler_from, section_from};
-use cat_machine::Code;
+use cat_machine::{Code, code_is_laid_out};
 use nv_memory::Device;
 use std::alloc::{AllocError, Global};
 
@@ -26,6 +26,7 @@ pub(crate) fn tasks_end(code: &Code) -> u32
     ensures within { result ≤ length code.now.instrs }
     ensures value { (p : Checked) → IsChecked p → code.now ≡ code_of p → result ≡ tasks_size (bodies_of p) }
 {
+    code_is_laid_out();
     let len = code.len();
     if code.events() == 0 {
         return len;

@@ -12,7 +12,7 @@ ghost use Rattle.cost_bounds.specs.Pass.{AreMade, IsDearest, around_job, cost_jo
 
 use crate::job::{Bounds, Job};
 use crate::pass::{pass, tasks_end};
-use cat_machine::Code;
+use cat_machine::{Code, code_is_laid_out, spending_law};
 use cat_program::Program;
 use cn_base::NoMemory;
 use nv_memory::{Cost, Device};
@@ -115,6 +115,8 @@ pub fn bounds(
     ensures greatest { IfOk result (λ b. AreBounds program.now device.now lines b) }
     ensures runs { IfOk result (λ b. (h : Held) → Fits program.now code.now h → h.kept ≡ None → h.stack ≡ [] → RunsWithin program.now device.now lines b h) }
 {
+    code_is_laid_out();
+    spending_law();
     let _checked = program.bodies();
     match made(alloc, code, device, lines) {
         Ok(bounds) => Ok(bounds),

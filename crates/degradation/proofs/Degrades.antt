@@ -20,11 +20,9 @@ use Rattle.degradation.specs.declared.chosen.Chosen.{Chosen}
 use Rattle.degradation.specs.declared.supply.Supply.{Supply}
 use Rattle.degradation.specs.Choice.{load_of, tables_of, HasBounds, IsChoice, Suits}
 
-pub headers_count : (hs : List Event) (es : List (List ℕ)) → EachEventIs hs es → length hs ≡ length es
-headers_count [] [] each = refl
-headers_count (h ∷ hs) (e ∷ es) each = ap suc (headers_count hs es each.1)
-headers_count [] (e ∷ es) each = absurd each
-headers_count (h ∷ hs) [] each = absurd each
+-- each event has a header
+abbrev pub HaveHeaders : Type 0
+HaveHeaders = (p : Checked) → IsChecked p → length p.headers ≡ length p.events
 
 -- ---- how long the degrade order is
 
@@ -151,14 +149,14 @@ header_at (h' ∷ hs) (vs ∷ es) (versions ∷ jobs) (suc e) h each same is = h
 pub jobs_count : (p : Checked) (jobs : List (List Job)) → map length jobs ≡ map length p.events → length jobs ≡ length p.events
 jobs_count p jobs same = sym (length-map jobs length) ∙ ap length same ∙ length-map p.events length
 
-pub tables_count : (p : Checked) (jobs : List (List Job)) → IsChecked p → map length jobs ≡ map length p.events → length (tables_of p.headers jobs) ≡ length p.events
-tables_count p jobs checked same =
-    let headers = headers_count p.headers p.events checked.declares in
+pub tables_count : HaveHeaders → (p : Checked) (jobs : List (List Job)) → IsChecked p → map length jobs ≡ map length p.events → length (tables_of p.headers jobs) ≡ length p.events
+tables_count have p jobs checked same =
+    let headers = have p checked in
     tables_length p.headers jobs (headers ∙ sym (jobs_count p jobs same)) ∙ headers
 
-pub are_tables : (p : Checked) (jobs : List (List Job)) → IsChecked p → map length jobs ≡ map length p.events → AreTables (tables_of p.headers jobs) p.mentions
-are_tables p jobs checked same =
-    let count = tables_count p jobs checked same in
+pub are_tables : HaveHeaders → (p : Checked) (jobs : List (List Job)) → IsChecked p → map length jobs ≡ map length p.events → AreTables (tables_of p.headers jobs) p.mentions
+are_tables have p jobs checked same =
+    let count = tables_count have p jobs checked same in
     let few = counted_few (length p.events) p.mentions (λ e lt. rarely p.mentions 0 p.headers p.events e e (omega arith) checked.declares checked.degrades lt) in
     let at = λ (e : ℕ) (lt : e < length (tables_of p.headers jobs)). table_at p.mentions 0 p.headers p.events jobs e e (omega arith) checked.declares checked.degrades same (omega arith) in
     record {
@@ -177,12 +175,12 @@ unfolding versions_of
 versions_length front zero = refl
 versions_length front (suc n) = omega (arith, length-append (versions_of front n) (version_of front n ∷ []), versions_length front n)
 
-loads_length : (tables : List (List Load)) (front : List ℕ) (n : ℕ) → length (loads_of tables front n) ≡ n
+pub loads_length : (tables : List (List Load)) (front : List ℕ) (n : ℕ) → length (loads_of tables front n) ≡ n
 unfolding loads_of
 loads_length tables front zero = refl
 loads_length tables front (suc n) = omega (arith, length-append (loads_of tables front n) (chosen.load_of tables front n ∷ []), loads_length tables front n)
 
-version_at : (front : List ℕ) (n e : ℕ) → e < n → slice_index (versions_of front n) e ≡ version_of front e
+pub version_at : (front : List ℕ) (n e : ℕ) → e < n → slice_index (versions_of front n) e ≡ version_of front e
 unfolding versions_of
 version_at front zero e lt = absurd (omega arith)
 version_at front (suc n) e lt =
@@ -197,16 +195,16 @@ version_at front (suc n) e lt =
           ∙ ap (version_of front) same
     ]
 
-degraded : (ms : List ℕ) (k : ℕ) (es : List (List ℕ)) (e n : ℕ) → n ≡ k + e → EachDegrades ms k es → e < length es → version_of ms n < length (unwrap_or (slice_get es e) [])
+pub degraded : (ms : List ℕ) (k : ℕ) (es : List (List ℕ)) (e n : ℕ) → n ≡ k + e → EachDegrades ms k es → e < length es → version_of ms n < length (unwrap_or (slice_get es e) [])
 degraded ms k [] e n is degrades lt = absurd (omega arith)
 degraded ms k (vs ∷ es) zero n is degrades lt =
     let same : n ≡ k = omega arith in
     rw same degrades.0
 degraded ms k (vs ∷ es) (suc e) n is degrades lt = degraded ms (k + 1) es e n (omega arith) degrades.1 (omega arith)
 
-pub suits : (p : Checked) (b : BoundsValue) (device : Device) (supply : Supply) (lines : ℕ) (c : Chosen) → IsChecked p → HasBounds p b → IsChoice p b device supply lines c → Suits p c
-suits p b device supply lines c checked same choice =
-    let count = tables_count p b.jobs checked same in
+pub suits : HaveHeaders → (p : Checked) (b : BoundsValue) (device : Device) (supply : Supply) (lines : ℕ) (c : Chosen) → IsChecked p → HasBounds p b → IsChoice p b device supply lines c → Suits p c
+suits have p b device supply lines c checked same choice =
+    let count = tables_count have p b.jobs checked same in
     let front = take choice.is.k p.mentions in
     let versions : c.versions ≡ versions_of front (length (tables_of p.headers b.jobs)) = choice.versions ∙ choice.is.is.versions in
     let loads : c.loads ≡ loads_of (tables_of p.headers b.jobs) front (length (tables_of p.headers b.jobs)) = choice.loads ∙ choice.is.is.loads in

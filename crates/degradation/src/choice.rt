@@ -8,7 +8,7 @@ ghost use Rattle.degradation.specs.Choice.{base_of, level_of, numbers_of, supply
 use crate::chosen::Chosen;
 use crate::supply::Supply;
 use crate::tables::tables;
-use cat_program::Program;
+use cat_program::{Program, events_have_headers};
 use cost_bounds::Bounds;
 use demand_core::{Base, Numbers};
 use feasibility::{ChooseFault, Vector, choose_vector};
@@ -73,6 +73,7 @@ pub fn choose_with(
     ensures refused { IfErr result (IsNoChoice program.now bounds.now device.now supply) }
 {
     let _checked = program.bodies();
+    events_have_headers();
     let Ok(tables) = tables(alloc, program, bounds) else {
         return Err(ChooseFault::NoMemory);
     };

@@ -11,6 +11,6 @@ mod tables;
 
 pub use choice::{choose, choose_with};
 pub use chosen::Chosen;
-pub use law::chosen_law;
+pub use law::{choices_suit, chosen_law, degraded_loads_law};
 pub use placed::{bounds_of, layout_of};
 pub use supply::Supply;

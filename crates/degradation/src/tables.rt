@@ -5,7 +5,7 @@ ghost use Rattle.cat_program.specs.Declares.{spacing_of};
 ghost use Rattle.cost_bounds.specs.BoundsValue.{versions_in};
 ghost use Rattle.degradation.specs.Choice.{load_of, tables_of, HasBounds};
 
-use cat_program::{Event, Program, Timing};
+use cat_program::{Event, Program, Timing, events_have_headers};
 use cn_base::List;
 use cost_bounds::{Bounds, Job};
 use demand_core::Load;
@@ -54,6 +54,7 @@ pub fn tables(
     ensures { IfOk result (λ tables. tables.items ≡ tables_of program.now.headers bounds.now.jobs) }
 {
     let _checked = program.bodies();
+    events_have_headers();
     let mut tables = Vec::new(alloc);
     for e in 0..program.events() {
         let table = loads(alloc, program.event(e), bounds, e)?;

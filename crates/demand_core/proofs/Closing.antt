@@ -1,5 +1,5 @@
 -- Demand and supply repeat after a window, so what holds in one window holds at every length.
-use Rattle.std.proofs.Common.{get_or, drop, drop-cons, add-one, drop_of_length-le, max, ◌≡◌, ℕ, suc, zero, ◌+◌, ◌-◌, ◌*◌, ◌/◌, ◌%◌, ◌<◌, ◌≤◌, inl, inr, List, [], ◌∷◌, length, sum_by, refl, sym, ap, ap₂, subst, ◌∙◌, arith}
+use Rattle.std.proofs.Common.{get_or, drop, drop-cons, add-one, drop_of_length-le, max, ◌≡◌, ℕ, suc, zero, ◌+◌, ◌-◌, ◌*◌, ◌/◌, ◌%◌, ◌<◌, ◌≤◌, inl, inr, List, [], ◌∷◌, length, sum_by, All, refl, sym, ap, ap₂, subst, ◌∙◌, arith}
 use Rattle.std.specs.Int.{◌∣◌}
 use native.Mathlib.Nat.{mod-eq-zero_of_dvd, div-add-mod, add-mul-div_left}
 use Rattle.std.proofs.lemmas.Bool.{cases_lt}
@@ -8,7 +8,7 @@ use Rattle.std.proofs.lemmas.Nat.{mod_below}
 use Rattle.demand_core.specs.declared.Load.{Load}
 use Rattle.demand_core.specs.declared.Base.{Base}
 use Rattle.demand_core.specs.Demand.{sbf, rbf, dbf, longest_job, block, most, reserve, least_deadline, CanRepeat, IsWindow, IsFeasible}
-use Rattle.demand_core.proofs.Sums.{IsAt, over, over-add, over_is, all_at}
+use Rattle.demand_core.proofs.Sums.{IsAt, over, over-add, over_is, all_at, all_of}
 
 -- a whole number of spacings adds to the quotient
 pub div_add : (l w t : ℕ) → 0 < t → t ∣ w → (l + w) / t ≡ l / t + w / t
@@ -116,13 +116,16 @@ longest_job_ge (y ∷ loads) l zero x at later =
 longest_job_ge (y ∷ loads) l (suc e) x at later = let rest = longest_job_ge loads l e x at later in omega arith
 
 -- a job that is due later than l blocks
-pub job_blocks : (base : Base) (loads : List Load) (l e : ℕ) (x : Load) → IsAt loads e x → l < x.deadline → x.ticks ≤ block base loads l + 1
+job_blocks : (base : Base) (loads : List Load) (l e : ℕ) (x : Load) → IsAt loads e x → l < x.deadline → x.ticks ≤ block base loads l + 1
 unfolding block
 job_blocks base loads l e x at later = let le = longest_job_ge loads l e x at later in omega arith
 
 pub longest_blocks : (base : Base) (loads : List Load) (l : ℕ) → base.longest ≤ block base loads l + 1
 unfolding block
 longest_blocks base loads l = omega arith
+
+pub each_blocks : (base : Base) (loads : List Load) (l : ℕ) → All (λ x. l < x.deadline → x.ticks ≤ block base loads l + 1) loads
+each_blocks base loads l = all_of (λ x. l < x.deadline → x.ticks ≤ block base loads l + 1) loads (job_blocks base loads l)
 
 pub energy_closes : (base : Base) (loads : List Load) (window : ℕ) → CanRepeat base loads → IsWindow base.p loads window → IsFeasible base loads window →
     (l : ℕ) → rbf loads l ≤ reserve base loads window + sbf base l

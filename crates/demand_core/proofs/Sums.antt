@@ -2,7 +2,7 @@
 use Rattle.std.proofs.Common.{◌≡◌, ◌≢◌, ℕ, suc, zero, ◌+◌, ◌<◌, ◌≤◌, ◌⊎◌, inl, inr, List, [], ◌∷◌, sum_by, All, Any, refl, sym, subst, arith}
 use Rattle.std.specs.List.{AllByRecursion}
 use Rattle.std.proofs.lemmas.List.Sums.{sum_by-cons}
-use Rattle.std.proofs.lemmas.List.Elements.{recursion_from_All}
+use Rattle.std.proofs.lemmas.List.Elements.{All-from_recursion, recursion_from_All}
 use Rattle.std.proofs.lemmas.Bool.{cases_lt}
 use Rattle.demand_core.specs.declared.Load.{Load}
 
@@ -91,6 +91,14 @@ all_at P loads all e x at = at_all loads (recursion_from_All P loads all) e x at
     at_all [] all e x at = elim at [ ]
     at_all (y ∷ loads) all zero x at = subst P at all.0
     at_all (y ∷ loads) all (suc e) x at = at_all loads all.1 e x at
+
+-- what holds of the load of each event holds of all loads
+pub all_of : (P : Load → Type 0) (loads : List Load) → ((e : ℕ) (x : Load) → IsAt loads e x → P x) → All P loads
+all_of P loads each = All-from_recursion P loads (each_of loads each)
+  where
+    each_of : (loads : List Load) → ((e : ℕ) (x : Load) → IsAt loads e x → P x) → AllByRecursion P loads
+    each_of [] each = tt
+    each_of (x ∷ loads) each = (each 0 x refl, each_of loads (λ e y at. each (suc e) y at))
 
 -- what holds of the load of one event holds of some load
 pub any_at : (P : Load → Type 0) (loads : List Load) (e : ℕ) (x : Load) → IsAt loads e x → P x → Any P loads

@@ -109,3 +109,12 @@ pub fn points_law()
     ensures harvest { (base more : Base) (loads : List Load) (window : ℕ) → more.p ≡ base.p → base.q ≤ more.q →
         reserve more loads window ≤ reserve base loads window }
 {}
+
+/// How long a job that is due in l ticks may be kept waiting by what was chosen earlier.
+pub fn blocking_law()
+    // no longer where more time is left
+    ensures falls { (base : Base) (loads : List Load) (l m : ℕ) → l ≤ m → block base loads m ≤ block base loads l }
+    // a chunk of task code, or a job that is due later, may have begun in the tick before
+    ensures chunk { (base : Base) (loads : List Load) (l : ℕ) → base.longest ≤ block base loads l + 1 }
+    ensures job { (base : Base) (loads : List Load) (l : ℕ) → All (λ x. l < x.deadline → x.ticks ≤ block base loads l + 1) loads }
+{}

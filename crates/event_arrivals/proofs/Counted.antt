@@ -1,11 +1,10 @@
 -- The arrivals before a tick are those of the lowest numbers.
-use Rattle.std.proofs.Common.{List, ◌≡◌, ℕ, zero, suc, ◌+◌, ◌-◌, ◌*◌, ◌/◌, ◌≤◌, ◌<◌, ◌⊎◌, true, false, length, Option, Some, None, refl, ap, ◌∙◌, subst, arith, inl, inr, cond}
+use Rattle.std.proofs.Common.{List, ◌≡◌, ℕ, zero, suc, ◌+◌, ◌-◌, ◌*◌, ◌/◌, ◌≤◌, ◌<◌, ◌⊎◌, true, false, Option, Some, None, refl, ap, ◌∙◌, subst, arith, inl, inr, cond}
 use Rattle.std.proofs.lemmas.Bool.{cases_lt, cases_eq}
 use Rattle.std.proofs.lemmas.Bool.Decides.{nat_tests}
 use Rattle.std.proofs.lemmas.List.FromFn.{sum_by-map-range_with_len_more}
 use Rattle.std.specs.Prelude.{nat_lt}
-use Rattle.std.proofs.Math.Nat.{le-mul_of_pos_right, lt-div-mul-add}
-use Rattle.std.proofs.lemmas.Option.{slice_get_past}
+use Rattle.std.proofs.Math.Nat.{lt-div-mul-add}
 use Rattle.event_arrivals.specs.Arrivals.{Lists, arrival_at}
 use Rattle.event_arrivals.specs.Counts.{came_among, came, comes_before, AreCounted}
 use Rattle.event_arrivals.specs.Kept.{spacing_at}
@@ -49,9 +48,7 @@ module _ (lists : Lists) (sound : AreSound lists) (event : ℕ) where
   -- those before one that comes before the tick do so, too
   sooner : (t k j : ℕ) → j ≤ k → Comes lists event t k → Comes lists event t j
   sooner t k j le one =
-      let place : k ≡ j + (k - j) = omega arith in
-      let there = subst (λ (n : ℕ). arrival_at lists event n ≡ Some one.0) place one.1 in
-      let first = sound.spaced event j (k - j) one.0 there in
+      let first = sound.in_order event j k one.0 le one.1 in
       let early = one.2 in
       (first.0, first.1, omega (arith, first.2))
 
@@ -95,29 +92,8 @@ module _ (lists : Lists) (sound : AreSound lists) (event : ℕ) where
         | inr no' ↦ among_has_come t n k (omega (arith, among_no lists event t n no'))
       ]
 
-  -- an event that has an arrival has a spacing
-  some_spacing : (k : ℕ) (arrival : Arrival) → arrival_at lists event k ≡ Some arrival → 0 < spacing_at lists.timings event
-  some_spacing k arrival is =
-      elim (cases_lt event (length lists.timings)) [
-        | inl within ↦ sound.apart event within
-        | inr past ↦
-            let none = slice_get_past lists.timings event past in
-            let none' : arrival_at lists event k ≡ None = rw none refl in
-            absurd (cc)
-      ]
-
-  -- the number of an arrival is at most its tick
-  number_below : (t k : ℕ) → Comes lists event t k → k < t
-  number_below t k one =
-      let place : k ≡ 0 + k = omega arith in
-      let there = subst (λ (n : ℕ). arrival_at lists event n ≡ Some one.0) place one.1 in
-      let first = sound.spaced event 0 k one.0 there in
-      let early = one.2 in
-      let far : k ≤ k * spacing_at lists.timings event = le-mul_of_pos_right k (some_spacing k one.0 one.1) in
-      omega (arith, first.2)
-
   pub counted : (k t : ℕ) (arrival : Arrival) → arrival_at lists event k ≡ Some arrival → arrival.tick < t → k < came lists event t
-  counted k t arrival is early = among_counted t t k (number_below t k (arrival, is, early)) (arrival, is, early)
+  counted k t arrival is early = among_counted t t k (omega (arith, sound.rare event k arrival is)) (arrival, is, early)
 
   pub has_come : (k t : ℕ) → k < came lists event t → Comes lists event t k
   has_come k t some = among_has_come t t k some
@@ -165,10 +141,8 @@ pub lowest : (lists : Lists) (deadlines : List ℕ) (done : ℕ → ℕ) (now ev
 lowest lists deadlines done now event k arrival sound next =
     let to_do = next.pending.to_do in
     let come = next.pending.come in
-    let place : k ≡ done event + (k - done event) = omega arith in
-    let there = subst (λ (n : ℕ). arrival_at lists event n ≡ Some arrival) place next.pending.is_it in
-    let first = sound.spaced event (done event) (k - done event) arrival there in
-    let soon : first.0.tick ≤ arrival.tick = omega (arith, first.2) in
+    let first = sound.in_order event (done event) k arrival to_do next.pending.is_it in
+    let soon = first.2 in
     elim (next.first event (done event) first.0 (record { to_do = omega arith; is_it = first.1; come = omega arith })) [
       | inl earlier ↦ absurd (omega arith)
       | inr same ↦ elim same.1 [ inl below ↦ absurd (omega arith) | inr few ↦ omega (arith, few.1) ]

@@ -1,9 +1,8 @@
 -- The events that a program declares, one after the other.
-use Rattle.std.proofs.Common.{◌≡◌, ℕ, ◌+◌, ◌≤◌, ◌<◌, suc, List, [], ◌∷◌, ◌++◌, drop, length, Some, None, true, false, refl, sym, ap, ◌∙◌, append_assoc}
+use Rattle.std.proofs.Common.{◌≡◌, ℕ, ◌+◌, ◌≤◌, ◌<◌, suc, List, [], ◌∷◌, ◌++◌, drop, length, Some, None, true, false, refl, sym, ap, ◌∙◌, append_assoc, arith}
 use Rattle.std.proofs.lemmas.List.{drop_all, drop_more}
 use Rattle.std.proofs.lemmas.Option.{get_or_from_slice_get}
-use Rattle.std.specs.Prelude.{slice_get}
-use Rattle.cat_program.specs.Declares.{EachEventIs}
+use Rattle.std.specs.Prelude.{slice_get, if◌then◌else◌}
 use Rattle.cat_program.specs.declared.headers.Event.{Event}
 use Rattle.cat_program.specs.declared.headers.Timing.{Timing}
 use Rattle.cat_program.specs.declared.headers.Timing.TheVariants.{Spacing}
@@ -11,12 +10,6 @@ use Rattle.event_arrivals.specs.Arrivals.{each_own, own_rows, timings_of}
 use Rattle.event_arrivals.specs.Rows.{is_reactive_named, reactive_named}
 use Rattle.event_arrivals.specs.declared.arrival.Arrival.{Arrival}
 use Rattle.event_arrivals.specs.declared.row.ArrivalRow.{ArrivalRow}
-
-pub length-headers : (headers : List Event) (versions : List (List ℕ)) → EachEventIs headers versions → length headers ≡ length versions
-length-headers [] [] h = refl
-length-headers [] (v ∷ vs) h = absurd h
-length-headers (e ∷ es) [] h = absurd h
-length-headers (e ∷ es) (v ∷ vs) h = ap suc (length-headers es vs h.1)
 
 drop-header : (headers : List Event) (i : ℕ) (e : Event) → i < length headers → slice_get headers i ≡ Some e → drop i headers ≡ e ∷ drop (i + 1) headers
 drop-header headers i e within is = drop_more headers i e within ∙ ap (λ x. x ∷ drop (i + 1) headers) (get_or_from_slice_get headers i e e is)
@@ -34,6 +27,16 @@ named-later name headers i e within is fails = rw (drop-header headers i e withi
 pub named-none : (name : List ℕ) (headers : List Event) (i : ℕ) → length headers ≤ i → reactive_named name i (drop i headers) ≡ None
 unfolding reactive_named
 named-none name headers i past = rw (drop_all i headers past) refl
+
+-- a number that is found is that of an event
+pub named_below : (name : List ℕ) (number : ℕ) (headers : List Event) (event : ℕ) → reactive_named name number headers ≡ Some event → event < number + length headers
+unfolding reactive_named
+named_below name number [] event is = absurd (cc)
+named_below name number (e ∷ es) event is =
+    elim (is_reactive_named name e) as (λ b. (if b then Some number else reactive_named name (number + 1) es) ≡ Some event → event < number + length (e ∷ es)) [
+      | true ↦ (λ here. let same : number ≡ event = cc in omega arith)
+      | false ↦ (λ later. omega (arith, named_below name (number + 1) es event later))
+    ] is
 
 pub timings-more : (headers : List Event) (found : List Timing) (i : ℕ) (e : Event) → i < length headers → slice_get headers i ≡ Some e
     → found ++ timings_of (drop i headers) ≡ (found ++ e.timing ∷ []) ++ timings_of (drop (i + 1) headers)

@@ -1,8 +1,9 @@
 -- The arrivals of each event are spaced, and come before the trace's end.
-use Rattle.std.proofs.Common.{◌≡◌, ℕ, zero, suc, ◌+◌, ◌*◌, ◌≤◌, ◌<◌, nat_eq, nat_lt, Bool, true, false, List, [], ◌∷◌, get_or, length, map, filter, Option, Some, None, refl, sym, ap, ◌∙◌, subst, arith, inl, inr}
+use Rattle.std.proofs.Common.{◌≡◌, ℕ, zero, suc, ◌+◌, ◌*◌, ◌≤◌, ◌<◌, nat_eq, nat_lt, Bool, true, false, List, [], ◌∷◌, get_or, length, map, filter, All, Option, Some, None, refl, sym, ap, ◌∙◌, subst, arith, inl, inr}
 use Rattle.std.proofs.lemmas.Bool.{cases_lt}
 use Rattle.std.proofs.lemmas.Bool.Decides.{nat_tests}
 use Rattle.std.proofs.lemmas.List.{get_or_past, length-map}
+use Rattle.std.proofs.lemmas.List.Elements.{All-cons, All-filter, All-head, All-map, All-tail}
 use Rattle.std.specs.Prelude.{slice_get, if◌then◌else◌}
 use Rattle.cat_program.specs.Declares.{EachEventIs}
 use Rattle.cat_program.specs.declared.headers.Event.{Event}
@@ -11,12 +12,14 @@ use Rattle.cat_program.specs.declared.headers.Timing.TheVariants.{Every, Spacing
 use Rattle.harvest_trace.specs.Timeline.{life_of, sample_at}
 use Rattle.harvest_trace.specs.declared.row.TraceRow.{TraceRow}
 use Rattle.event_arrivals.specs.Arrivals.{arrival_by, arrival_of, dropped_of, each_own, lists_of, own_rows, periodic, rows_before, timings_of}
-use Rattle.event_arrivals.specs.Rows.{most_rows}
+use Rattle.event_arrivals.specs.Rows.{AreRowsOf, most_rows}
 use Rattle.event_arrivals.specs.Kept.{dropped_rows, is_apart, is_kept, kept_rows, last_kept, spacing_at, spacing_in}
-use Rattle.event_arrivals.specs.Spaced.{AreSound, HaveSpacings}
+use Rattle.event_arrivals.specs.Spaced.{AreSound, AreSpaced, HaveSpacings}
 use Rattle.event_arrivals.specs.declared.arrival.Arrival.{Arrival}
+use Rattle.event_arrivals.specs.declared.arrival.Dropped.{Dropped}
 use Rattle.event_arrivals.specs.declared.row.ArrivalRow.{ArrivalRow}
 use Rattle.event_arrivals.proofs.Events.{length-each_own}
+use Rattle.event_arrivals.proofs.Orders.{in_order, known, rare}
 use Rattle.event_arrivals.proofs.KeptLemmas.{equal_or_not, last_kept-other, last_kept-passed, last_kept-taken, nat_eq-other, nat_eq-same}
 
 -- ---- the spacings of a program
@@ -191,14 +194,36 @@ few_left timings earlier (row ∷ rows) =
       | false ↦ omega (arith, few_left timings (row ∷ earlier) rows)
     ]
 
-pub sound : (timings : List Timing) (trace : List TraceRow) (rows : List ArrivalRow) → HaveSpacings timings → length rows ≤ most_rows → AreSound (lists_of timings trace rows)
-sound timings trace rows apart few =
+known_left : (events : ℕ) (timings : List Timing) (earlier rows : List ArrivalRow) → AreRowsOf events rows → AreRowsOf events (dropped_rows timings earlier rows)
+unfolding dropped_rows
+known_left events timings earlier [] known = known
+known_left events timings earlier (row ∷ rows) known =
+    let P : ArrivalRow → Type 0 = λ r. r.event < events in
+    let rest = known_left events timings (row ∷ earlier) rows (All-tail P row rows known) in
+    elim (is_kept timings earlier row) as (λ b. AreRowsOf events (if b then dropped_rows timings (row ∷ earlier) rows else row ∷ dropped_rows timings (row ∷ earlier) rows)) [
+      | true ↦ rest
+      | false ↦ All-cons P row (dropped_rows timings (row ∷ earlier) rows) (All-head P row rows known) rest
+    ]
+
+known_dropped : (timings : List Timing) (rows : List ArrivalRow) (life : ℕ) → AreRowsOf (length timings) rows → All (λ (row : Dropped). row.event < length timings) (map dropped_of (dropped_rows timings [] (rows_before life rows)))
+known_dropped timings rows life known =
+    All-map (λ (row : Dropped). row.event < length timings) dropped_of (dropped_rows timings [] (rows_before life rows))
+    (known_left (length timings) timings [] (rows_before life rows) (All-filter (λ (row : ArrivalRow). nat_lt row.tick life) (λ (row : ArrivalRow). row.event < length timings) rows known))
+
+pub sound : (timings : List Timing) (trace : List TraceRow) (rows : List ArrivalRow) → HaveSpacings timings → length rows ≤ most_rows → AreRowsOf (length timings) rows → AreSound (lists_of timings trace rows)
+sound timings trace rows apart few known_rows =
     let life = life_of trace in
     let before = rows_before life rows in
     let early = early_kept life timings [] before (early_before life rows) in
+    let spaced : AreSpaced (lists_of timings trace rows) =
+    λ event j n later is. spaced_by (slice_get timings event) (get_or (each_own 0 timings (kept_rows timings [] before)) event []) trace j n later (kept_at timings before event) is in
     record {
+      known = known (lists_of timings trace rows);
       apart = apart;
-      spaced = λ event j n later is. spaced_by (slice_get timings event) (get_or (each_own 0 timings (kept_rows timings [] before)) event []) trace j n later (kept_at timings before event) is;
+      spaced = spaced;
+      in_order = in_order (lists_of timings trace rows) spaced;
+      rare = rare (lists_of timings trace rows) apart spaced;
       within = λ event k a is. within_by (slice_get timings event) (get_or (each_own 0 timings (kept_rows timings [] before)) event []) trace k a (λ there. early_at life timings (kept_rows timings [] before) event k a early there) is;
       few_dropped = omega (arith, few, few_filter (λ row. nat_lt row.tick life) rows, few_left timings [] before, length-map (dropped_rows timings [] before) dropped_of);
+      known_dropped = known_dropped timings rows life known_rows;
     }

@@ -29,3 +29,8 @@ pub record IsToCome (lists : Lists) (done : ℕ → ℕ) (now event k : ℕ) (ar
 pub record IsNextTick (lists : Lists) (done : ℕ → ℕ) (now tick : ℕ) : Type 0 where
   pub comes : (event k : ℕ) × (arrival : Arrival) × IsToCome lists done now event k arrival × (arrival.tick ≡ tick)
   pub first : (event k : ℕ) (arrival : Arrival) → IsToCome lists done now event k arrival → tick ≤ arrival.tick
+
+-- where two counts agree, what comes next by one and what comes next by the other are one arrival
+abbrev pub AreOne : Lists → List ℕ → ℕ → Type 0
+AreOne lists deadlines now = (done done' : ℕ → ℕ) (event k event' k' : ℕ) (arrival arrival' : Arrival) → ((e : ℕ) → done e ≡ done' e)
+    → IsNext lists deadlines done now event k arrival → IsNext lists deadlines done' now event' k' arrival' → (event ≡ event') × (k ≡ k') × (arrival ≡ arrival')

@@ -1,5 +1,5 @@
 -- The rows of a table of arrivals, or its first fault.
-use Rattle.std.specs.Prelude.{ℕ, ℤ, ◌+◌, ◌-◌, ◌==◌, nat_eq, nat_le, nat_lt, if◌then◌else◌, get_or, codes, Bool, false, List, [], ◌∷◌, ◌++◌, length, Option, Some, None, Result, Ok, Err}
+use Rattle.std.specs.Prelude.{ℕ, ℤ, ◌+◌, ◌-◌, ◌==◌, nat_eq, nat_le, nat_lt, if◌then◌else◌, get_or, codes, Bool, false, List, [], ◌∷◌, ◌++◌, length, All, ◌<◌, Option, Some, None, Result, Ok, Err}
 use Rattle.std.specs.Cmp.Lexicographic.{pointwise}
 use Rattle.cn_base.specs.declared.TheConstants.{MOST_TICKS}
 use Rattle.cat_program.specs.declared.headers.Event.{Event}
@@ -55,6 +55,10 @@ last_tick last (row ∷ rows) = last_tick row.tick rows
 abbrev pub with_row : List ArrivalRow → Result ArrivalRow RowKind → Result (List ArrivalRow) RowKind
 with_row before (Ok row) = if nat_le (last_tick 0 before) row.tick then Ok (before ++ row ∷ []) else Err kind.Order
 with_row before (Err bad) = Err bad
+
+-- each row is of one of so many events
+abbrev pub AreRowsOf : ℕ → List ArrivalRow → Type 0
+AreRowsOf events rows = All (λ row. row.event < events) rows
 
 -- the greatest number of rows
 abbrev pub most_rows : ℕ

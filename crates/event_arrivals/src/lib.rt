@@ -11,6 +11,6 @@ mod spacing;
 mod table;
 
 pub use arrival::{Arrival, Dropped};
-pub use laws::{arrivals_are_counted, next_is_lowest};
+pub use laws::{arrivals_are_counted, one_next, told_arrivals_are_sound};
 pub use lists::Arrivals;
 pub use table::{ArrivalsFault, arrivals};

@@ -2,7 +2,7 @@ ghost use Rattle.std.specs.Prelude.{◌≡◌, ◌<◌, ◌≤◌, length, IfOk}
 ghost use Rattle.cn_base.specs.declared.TheConstants.{MOST_TICKS};
 ghost use Rattle.harvest_trace.specs.Timeline.{life_of};
 ghost use Rattle.event_arrivals.specs.Arrivals.{arrival_at, each_own, lists_of, periodic};
-ghost use Rattle.event_arrivals.specs.Rows.{most_rows};
+ghost use Rattle.event_arrivals.specs.Rows.{AreRowsOf, most_rows};
 ghost use Rattle.event_arrivals.specs.Spaced.{AreSound, HaveSpacings};
 
 use crate::arrival::{Arrival, Dropped};
@@ -61,6 +61,7 @@ impl Arrivals {
         requires few { length timings.items ≤ 16 }
         requires apart { HaveSpacings timings.items }
         requires few_rows { length rows.now ≤ most_rows }
+        requires known { AreRowsOf (length timings.items) rows.now }
         ensures { IfOk result (λ found. found ≡ lists_of timings.items trace rows.now) }
     {
         let rows = before_end(alloc, rows, trace.life())?;
@@ -74,8 +75,8 @@ impl Arrivals {
         })
     }
 
-    /// What holds of all arrivals: those of an event follow each other by its spacing or period, and come before the trace's end,
-    /// and at most 100,000 rows are dropped.
+    /// What holds of all arrivals: those of an event follow each other by its spacing or period, in the order of their numbers,
+    /// and come before the trace's end; and at most 100,000 rows are dropped, each of an event that there is.
     pub fn are_sound(&self)
         ensures sound { AreSound self.now }
         ensures bounded { life_of self.now.trace ≤ MOST_TICKS }

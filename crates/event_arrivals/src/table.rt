@@ -8,8 +8,8 @@ ghost use Rattle.event_arrivals.specs.Spaced.{HaveSpacings};
 
 use crate::lists::Arrivals;
 use crate::row::{ArrivalRow, row_of};
-use cat_program::{Program, Timing};
-use cn_tables::{RowKind, Rows, TableFault, open_table};
+use cat_program::{Program, Timing, events_have_headers};
+use cn_tables::{RowKind, Rows, TableFault, open_table, rows_are_read};
 use harvest_trace::Trace;
 use std::alloc::{AllocError, Global};
 
@@ -32,8 +32,10 @@ fn rows_of(
 ) -> Result<Vec<ArrivalRow>, TableFault>
     ensures ok { IfOk result (λ found. read_rows (spec.arrivals_step program.now.headers) 1 [] rows.old.left ≡ Ok found.items) }
     ensures few { IfOk result (λ found. length found.items ≤ spec.most_rows) }
+    ensures known { IfOk result (λ found. spec.AreRowsOf (length program.now.headers) found.items) }
     ensures fault { IfErr result (IsTableFault (read_rows (spec.arrivals_step program.now.headers) 1 [] rows.old.left)) }
 {
+    rows_are_read::<ArrivalRow>();
     let mut kept = Vec::new(alloc);
     let mut last: u32 = 0;
     let mut number: u32 = 1;
@@ -69,6 +71,7 @@ fn timings_of(alloc: Global, program: &Program) -> Result<Vec<Timing>, AllocErro
     ensures apart { IfOk result (λ found. HaveSpacings found.items) }
 {
     let _versions = program.versions();
+    events_have_headers();
     let mut found = Vec::new(alloc);
     'events: for number in 0..program.events() {
         found.push(program.event(number).timing)?;
@@ -83,7 +86,8 @@ fn arrivals_by(
     trace: &Trace,
     rows: &[ArrivalRow],
 ) -> Option<Arrivals>
-    requires { length rows.now ≤ spec.most_rows }
+    requires few { length rows.now ≤ spec.most_rows }
+    requires known { spec.AreRowsOf (length program.now.headers) rows.now }
     ensures { IfSome result (λ found. found ≡ lists_of (timings_of program.now.headers) trace.now rows.now) }
 {
     let timings = timings_of(alloc, program).ok()?;

@@ -6,11 +6,22 @@ use Rattle.std.specs.Prelude.{slice_get, IfSome, IfNone}
 use Rattle.event_arrivals.specs.Arrivals.{Lists, arrival_at}
 use Rattle.event_arrivals.specs.Kept.{spacing_at}
 use Rattle.event_arrivals.specs.Next.{ComesFirst, IsNext, IsNextTick, IsPending, IsToCome}
-use Rattle.event_arrivals.specs.Spaced.{AreSound, AreSpaced}
+use Rattle.event_arrivals.specs.Spaced.{AreInOrder, AreSound}
 use Rattle.event_arrivals.specs.declared.arrival.Arrival.{Arrival}
-use Rattle.event_arrivals.proofs.Orders.{known}
-use Rattle.event_queue.specs.Queue.{IsDue, IsDueBelow, IsFirst, IsFirstTick, IsHead, IsHeadOf, IsQueue, IsTickBelow, IsTickOf, QueueValue, arrival_of}
+use Rattle.event_queue.specs.Queue.{IsDue, IsDueBelow, IsFirst, IsFirstTick, IsHead, IsHeadOf, IsInBounds, IsQueue, IsTickBelow, IsTickOf, QueueValue, arrival_of}
 use Rattle.event_queue.specs.declared.queue.Due.{Due}
+use Rattle.event_queue.proofs.Ticks.{not_before}
+
+-- ---- the event's arrival of an index
+
+pub none_from : (lists : Lists) → AreInOrder lists → (now event index : ℕ) → arrival_at lists event index ≡ None → (k : ℕ) (other : Arrival) → index ≤ k → arrival_at lists event k ≡ Some other → now < other.tick
+none_from lists ordered now event index none k other order is =
+    let found = ordered event index k other order is in
+    let never : None ≡ Some found.0 = sym none ∙ found.1 in
+    cc
+
+pub late_from : (lists : Lists) → AreInOrder lists → (now event index : ℕ) (arrival : Arrival) → arrival_at lists event index ≡ Some arrival → now < arrival.tick → (k : ℕ) (other : Arrival) → index ≤ k → arrival_at lists event k ≡ Some other → now < other.tick
+late_from lists ordered now event index arrival there late k other order is = omega (arith, late, not_before lists ordered event index k arrival other order there is)
 
 -- ---- which one is next
 
@@ -102,22 +113,34 @@ module _ (q : QueueValue) (done : ℕ → ℕ) (now event : ℕ) where
   }
 
 -- all events
-pub all_next : (q : QueueValue) (done : ℕ → ℕ) (now bound : ℕ) (best : Option Due) → length q.arrivals.timings ≤ bound → IsFirst q done now bound best → IfSome best (IsDue q done now)
-all_next q done now bound None all below = tt
-all_next q done now bound (Some due) all below = record {
-  next = record {
-    pending = below.pending;
-    first = λ e k other pending.
-        let inside = known q.arrivals e k other pending.is_it in
-        let first = below.first e k other (omega (arith, inside, all)) pending in
-        subst (λ tick. ComesFirst tick due.event due.index (other.tick + slice_index q.deadlines e) e k) below.deadline first;
-  };
-  deadline = below.deadline;
-}
+module _ (q : QueueValue) (done : ℕ → ℕ) (now bound : ℕ) (sound : AreSound q.arrivals) (all : length q.arrivals.timings ≤ bound) where
+  pub all_next : (best : Option Due) → IsFirst q done now bound best → IfSome best (IsDue q done now)
+  all_next None below = tt
+  all_next (Some due) below = record {
+    next = record {
+      pending = below.pending;
+      first = λ e k other pending.
+          let inside = sound.known e k other pending.is_it in
+          let first = below.first e k other (omega (arith, inside, all)) pending in
+          subst (λ tick. ComesFirst tick due.event due.index (other.tick + slice_index q.deadlines e) e k) below.deadline first;
+    };
+    deadline = below.deadline;
+  }
 
-pub none_pending : (q : QueueValue) (done : ℕ → ℕ) (now bound : ℕ) (best : Option Due) → length q.arrivals.timings ≤ bound → IsFirst q done now bound best
-    → IfNone best ((event k : ℕ) (other : Arrival) → ¬ (IsPending q.arrivals done now event k other))
-none_pending q done now bound (Some due) all below = tt
-none_pending q done now bound None all none = λ event k other pending.
-    let inside = known q.arrivals event k other pending.is_it in
-    none event k other (omega (arith, inside, all)) pending
+  pub in_bounds : ((event k : ℕ) (arrival : Arrival) → IsNext q.arrivals q.deadlines done now event k arrival → k ≡ done event) → (best : Option Due) → IsFirst q done now bound best → IfSome best (IsInBounds q done)
+  in_bounds lowest None below = tt
+  in_bounds lowest (Some due) below =
+      let next = all_next (Some due) below in
+      let is_it = below.pending.is_it in
+      record {
+        known = sound.known due.event due.index (arrival_of due) is_it;
+        lowest = lowest due.event due.index (arrival_of due) next.next;
+        rare = sound.rare due.event due.index (arrival_of due) is_it;
+        within = sound.within due.event due.index (arrival_of due) is_it;
+      }
+
+  pub none_pending : (best : Option Due) → IsFirst q done now bound best → IfNone best ((event k : ℕ) (other : Arrival) → ¬ (IsPending q.arrivals done now event k other))
+  none_pending (Some due) below = tt
+  none_pending None none = λ event k other pending.
+      let inside = sound.known event k other pending.is_it in
+      none event k other (omega (arith, inside, all)) pending

@@ -2,30 +2,27 @@
 use Rattle.std.proofs.Common.{◌≡◌, ℕ, zero, ◌+◌, ◌-◌, ◌*◌, ◌≤◌, ◌<◌, ◌⊎◌, nat_le, true, false, List, length, Option, Some, None, refl, sym, ap, ◌∙◌, subst, arith, inl, inr, slice_index}
 use Rattle.std.proofs.lemmas.Bool.{cases_lt}
 use Rattle.std.proofs.lemmas.Bool.Decides.{nat_tests}
-use Rattle.std.proofs.Math.Nat.{mul-le-mul_left}
 use Rattle.std.specs.Prelude.{IfSome, IfNone}
 use Rattle.cn_base.specs.declared.TheConstants.{MOST_TICKS}
 use Rattle.harvest_trace.specs.Timeline.{life_of}
 use Rattle.event_arrivals.specs.Arrivals.{Lists, arrival_at}
-use Rattle.event_arrivals.specs.Kept.{spacing_at}
 use Rattle.event_arrivals.specs.Next.{IsNextTick, IsToCome}
-use Rattle.event_arrivals.specs.Spaced.{AreSound, AreSpaced}
+use Rattle.event_arrivals.specs.Spaced.{AreInOrder, AreKnown, AreSound}
 use Rattle.event_arrivals.specs.declared.arrival.Arrival.{Arrival}
-use Rattle.event_arrivals.proofs.Orders.{earlier, known, not_before}
 use Rattle.event_queue.specs.Queue.{IsFirstTick, IsTickBelow, IsTickOf, has_come_by, is_by}
 
--- no arrival has a tick below its index
-tick_from : (lists : Lists) → AreSound lists → (event k : ℕ) (arrival : Arrival) → arrival_at lists event k ≡ Some arrival → k ≤ arrival.tick
-tick_from lists sound event k arrival is =
-    let found = earlier lists sound.spaced event 0 k arrival (omega arith) is in
-    let apart = sound.apart event (known lists event k arrival is) in
-    let more = mul-le-mul_left (k - 0) apart in
-    omega (arith, found.2, more)
+one_tick : (found : Option Arrival) (a b : Arrival) → found ≡ Some a → found ≡ Some b → a.tick ≡ b.tick
+one_tick found a b ea eb = cc
+
+pub not_before : (lists : Lists) → AreInOrder lists → (event j k : ℕ) (sooner later : Arrival) → j ≤ k → arrival_at lists event j ≡ Some sooner → arrival_at lists event k ≡ Some later → sooner.tick ≤ later.tick
+not_before lists ordered event j k sooner later order sooner_is later_is =
+    let found = ordered event j k later order later_is in
+    omega (arith, one_tick (arrival_at lists event j) sooner found.0 sooner_is found.1, found.2)
 
 -- the arrival of a high index comes later
 pub high_later : (lists : Lists) → AreSound lists → life_of lists.trace ≤ MOST_TICKS → (now event high : ℕ) → (now + 1 ≤ high) ⊎ (4294967295 ≤ high) → (arrival : Arrival) → arrival_at lists event high ≡ Some arrival → now < arrival.tick
 high_later lists sound bounded now event high far arrival is =
-    let index = tick_from lists sound event high arrival is in
+    let index = sound.rare event high arrival is in
     let within = sound.within event high arrival is in
     elim far [
       | inl more ↦ omega (arith, index, more)
@@ -44,10 +41,10 @@ by_false now (Some first) arrival is there =
     omega (arith, same, late)
 
 -- where the arrival in the middle has come, all up to it have
-pub come_to : (lists : Lists) → AreSpaced lists → (now event middle : ℕ) → has_come_by lists now event middle ≡ true → (k : ℕ) (arrival : Arrival) → k < middle + 1 → arrival_at lists event k ≡ Some arrival → arrival.tick ≤ now
-come_to lists spaced now event middle come k arrival below is =
+pub come_to : (lists : Lists) → AreInOrder lists → (now event middle : ℕ) → has_come_by lists now event middle ≡ true → (k : ℕ) (arrival : Arrival) → k < middle + 1 → arrival_at lists event k ≡ Some arrival → arrival.tick ≤ now
+come_to lists ordered now event middle come k arrival below is =
     let found = by_true now (arrival_at lists event middle) come in
-    omega (arith, not_before lists spaced event k middle arrival found.0 (omega arith) is found.1, found.2)
+    omega (arith, not_before lists ordered event k middle arrival found.0 (omega arith) is found.1, found.2)
 
 pub later_at : (lists : Lists) (now event middle : ℕ) → has_come_by lists now event middle ≡ false → (arrival : Arrival) → arrival_at lists event middle ≡ Some arrival → now < arrival.tick
 later_at lists now event middle late arrival is = by_false now (arrival_at lists event middle) arrival late is
@@ -56,18 +53,18 @@ later_at lists now event middle late arrival is = by_false now (arrival_at lists
 abbrev pub Come : Lists → ℕ → ℕ → ℕ → ℕ → Type 0
 Come lists now event from low = (k : ℕ) (arrival : Arrival) → from ≤ k → k < low → arrival_at lists event k ≡ Some arrival → arrival.tick ≤ now
 
-pub tick_none : (lists : Lists) → AreSpaced lists → (now event from low : ℕ) → Come lists now event from low → arrival_at lists event low ≡ None → IsTickOf lists now event from None
-tick_none lists spaced now event from low come none = λ k arrival order is. elim (cases_lt k low) [
+pub tick_none : (lists : Lists) → AreInOrder lists → (now event from low : ℕ) → Come lists now event from low → arrival_at lists event low ≡ None → IsTickOf lists now event from None
+tick_none lists ordered now event from low come none = λ k arrival order is. elim (cases_lt k low) [
   | inl below ↦ come k arrival order below is
-  | inr above ↦ (let found = earlier lists spaced event low k arrival above is in let never : None ≡ Some found.0 = sym none ∙ found.1 in cc)
+  | inr above ↦ (let found = ordered event low k arrival above is in let never : None ≡ Some found.0 = sym none ∙ found.1 in cc)
 ]
 
-pub tick_some : (lists : Lists) → AreSpaced lists → (now event from low : ℕ) (arrival : Arrival) → from ≤ low → Come lists now event from low → arrival_at lists event low ≡ Some arrival → now < arrival.tick → IsTickOf lists now event from (Some arrival.tick)
-tick_some lists spaced now event from low arrival order come is later = (
+pub tick_some : (lists : Lists) → AreInOrder lists → (now event from low : ℕ) (arrival : Arrival) → from ≤ low → Come lists now event from low → arrival_at lists event low ≡ Some arrival → now < arrival.tick → IsTickOf lists now event from (Some arrival.tick)
+tick_some lists ordered now event from low arrival order come is later = (
   (low, arrival, order, is, refl, later),
   λ k other after there late. elim (cases_lt k low) [
     | inl below ↦ (let early = come k other after below there in absurd (let never : ⊥ = omega (arith, early, late) in never))
-    | inr above ↦ not_before lists spaced event low k arrival other above is there
+    | inr above ↦ not_before lists ordered event low k arrival other above is there
   ],
 )
 
@@ -130,14 +127,14 @@ module _ (lists : Lists) (done : ℕ → ℕ) (now event : ℕ) where
     ];
   }
 
-pub all_ticks : (lists : Lists) (done : ℕ → ℕ) (now bound : ℕ) (best : Option ℕ) → length lists.timings ≤ bound → IsFirstTick lists done now bound best → IfSome best (IsNextTick lists done now)
-all_ticks lists done now bound None all before = tt
-all_ticks lists done now bound (Some tick) all before = record {
+pub all_ticks : (lists : Lists) → AreKnown lists → (done : ℕ → ℕ) (now bound : ℕ) (best : Option ℕ) → length lists.timings ≤ bound → IsFirstTick lists done now bound best → IfSome best (IsNextTick lists done now)
+all_ticks lists known done now bound None all before = tt
+all_ticks lists known done now bound (Some tick) all before = record {
   comes = before.comes;
-  first = λ e k arrival coming. (let inside = known lists e k arrival coming.is_it in before.first e k arrival (omega (arith, inside, all)) coming);
+  first = λ e k arrival coming. (let inside = known e k arrival coming.is_it in before.first e k arrival (omega (arith, inside, all)) coming);
 }
 
-pub no_ticks : (lists : Lists) (done : ℕ → ℕ) (now bound : ℕ) (best : Option ℕ) → length lists.timings ≤ bound → IsFirstTick lists done now bound best
+pub no_ticks : (lists : Lists) → AreKnown lists → (done : ℕ → ℕ) (now bound : ℕ) (best : Option ℕ) → length lists.timings ≤ bound → IsFirstTick lists done now bound best
     → IfNone best ((event k : ℕ) (arrival : Arrival) → ¬ (IsToCome lists done now event k arrival))
-no_ticks lists done now bound (Some tick) all before = tt
-no_ticks lists done now bound None all before = λ e k arrival coming. (let inside = known lists e k arrival coming.is_it in before e k arrival (omega (arith, inside, all)) coming)
+no_ticks lists known done now bound (Some tick) all before = tt
+no_ticks lists known done now bound None all before = λ e k arrival coming. (let inside = known e k arrival coming.is_it in before e k arrival (omega (arith, inside, all)) coming)

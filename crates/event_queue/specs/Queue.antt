@@ -1,5 +1,6 @@
 -- A queue, and what is next in it.
 use Rattle.std.specs.Prelude.{◌≡◌, ◌≤◌, ◌<◌, ℕ, ◌+◌, nat_le, Bool, false, List, length, Option, Some, None, slice_index, MatchOption}
+use Rattle.harvest_trace.specs.Timeline.{life_of}
 use Rattle.event_arrivals.specs.Arrivals.{Lists, arrival_at}
 use Rattle.event_arrivals.specs.Next.{ComesFirst, IsNext, IsPending, IsToCome}
 use Rattle.event_arrivals.specs.declared.arrival.Arrival.{Arrival}
@@ -21,6 +22,13 @@ arrival_of due = record { tick = due.arrived; payload = due.payload }
 pub record IsDue (q : QueueValue) (done : ℕ → ℕ) (now : ℕ) (due : Due) : Type 0 where
   pub next : IsNext q.arrivals q.deadlines done now due.event due.index (arrival_of due)
   pub deadline : due.deadline ≡ due.arrived + slice_index q.deadlines due.event
+
+-- it is its event's first that is not done, and comes at no tick below its index, before the trace ends
+pub record IsInBounds (q : QueueValue) (done : ℕ → ℕ) (due : Due) : Type 0 where
+  pub known : due.event < length q.arrivals.timings
+  pub lowest : due.index ≡ done due.event
+  pub rare : due.index ≤ due.arrived
+  pub within : due.arrived < life_of q.arrivals.trace
 
 -- ---- among some events
 

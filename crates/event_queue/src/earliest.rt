@@ -3,10 +3,11 @@
 ghost use Rattle.std.specs.Prelude.{◌≡◌, ◌<◌, ◌+◌, ℕ, length, slice_index, IfSome, IfNone};
 ghost use Rattle.event_arrivals.specs.Next.{IsPending};
 ghost use Rattle.event_arrivals.specs.declared.arrival.Arrival.{Arrival};
-ghost use Rattle.event_queue.specs.Queue.{IsDue, IsFirst, IsHeadOf};
+ghost use Rattle.event_queue.specs.Queue.{IsDue, IsFirst, IsHeadOf, IsInBounds};
 
 use crate::queue::{Due, Queue};
 use checkpoint_slots::Slot;
+use event_arrivals::one_next;
 
 impl Queue {
     // The event's arrival of this index, where it waits.
@@ -57,8 +58,11 @@ impl Queue {
     pub fn earliest(&self, now: u32, slot: &Slot) -> Option<Due>
         requires { length slot.now.done ≡ length self.now.arrivals.timings }
         ensures next { IfSome result (IsDue self.now (slice_index slot.now.done) now) }
+        ensures bounds { IfSome result (IsInBounds self.now (slice_index slot.now.done)) }
         ensures none { IfNone result ((event k : ℕ) (arrival : Arrival) → ¬ (IsPending self.now.arrivals (slice_index slot.now.done) now event k arrival)) }
     {
+        self.arrivals.are_sound();
+        one_next();
         let mut best = None;
         'events: for event in 0..self.arrivals.events() {
             best = self.first_to(now, slot, event, best);

@@ -66,6 +66,7 @@ impl Queue {
         ensures next { IfSome result (IsNextTick self.now.arrivals (slice_index slot.now.done) now) }
         ensures none { IfNone result ((event k : ℕ) (arrival : Arrival) → ¬ (IsToCome self.now.arrivals (slice_index slot.now.done) now event k arrival)) }
     {
+        self.arrivals.are_sound();
         let mut best = None;
         'events: for event in 0..self.arrivals.events() {
             best = self.first_after(now, slot, event, best);

@@ -158,9 +158,9 @@ stretch_in rows ends life tick place h most point within d =
       later = short;
       within = let last = end-most 0 rows place d inside in omega (arith, last, same d);
       alike = λ t from until.
-        let z : t - 0 ≡ t = omega arith in
-        let ends_later : t < get_or (ends_from 0 rows) place 0 = omega (arith, no_default, same 0) in
-        (λ (x : TraceRow). (rw z at (row_at-place 0 rows place t x inside (omega arith) (omega (arith, begun)) ends_later)) ∙ sym (row.1 x)) (record { ticks = 0; harvest = 0; extra = 0; sample = pos 0 });
+          let z : t - 0 ≡ t = omega arith in
+          let ends_later : t < get_or (ends_from 0 rows) place 0 = omega (arith, no_default, same 0) in
+          (λ (x : TraceRow). (rw z at (row_at-place 0 rows place t x inside (omega arith) (omega (arith, begun)) ends_later)) ∙ sym (row.1 x)) (record { ticks = 0; harvest = 0; extra = 0; sample = pos 0 });
     }
 
 pub length_of_ends : (rows : List TraceRow) (ends : List ℕ) (life : ℕ) → IsTimeline rows ends life → length ends ≡ length rows

@@ -6,7 +6,7 @@ ghost use Rattle.harvest_trace.specs.FailsTable as spec;
 
 use crate::failures::{Fails, Failure};
 use cn_base::MOST_TICKS;
-use cn_tables::{RowKind, Rows, TableFault, fill_of, number, open_table, within};
+use cn_tables::{RowKind, Rows, TableFault, fill_of, number, open_table, rows_are_read, within};
 use std::alloc::Global;
 
 /// Why a text is no table of failures.
@@ -54,6 +54,7 @@ fn rows_of(alloc: Global, rows: &mut Rows<'_>) -> Result<Fails, TableFault>
     ensures ok { IfOk result (λ found. read_rows spec.fails_step 1 [] rows.old.left ≡ Ok found) }
     ensures fault { IfErr result (IsTableFault (read_rows spec.fails_step 1 [] rows.old.left)) }
 {
+    rows_are_read::<Failure>();
     let mut kept = Vec::new(alloc);
     let mut last: Option<u32> = None;
     let mut row: u32 = 1;

@@ -4,10 +4,10 @@ ghost use Rattle.cn_tables.specs.Table.{read_rows};
 ghost use Rattle.harvest_trace.specs.Fault.{IsTraceFault};
 ghost use Rattle.harvest_trace.specs.TraceTable.{trace_of, trace_step};
 
-use crate::row::row_of;
+use crate::row::{TraceRow, row_of};
 use crate::timeline::Trace;
 use cn_base::MOST_TICKS;
-use cn_tables::{RowKind, Rows, TableFault, open_table};
+use cn_tables::{RowKind, Rows, TableFault, open_table, rows_are_read};
 use std::alloc::Global;
 
 /// Why a text is no trace.
@@ -23,6 +23,7 @@ fn rows_of(alloc: Global, rows: &mut Rows<'_>) -> Result<Trace, TableFault>
     ensures ok { IfOk result (λ trace. read_rows trace_step 1 [] rows.old.left ≡ Ok trace) }
     ensures fault { IfErr result (IsTableFault (read_rows trace_step 1 [] rows.old.left)) }
 {
+    rows_are_read::<TraceRow>();
     let mut kept = Vec::new(alloc);
     let mut ends = Vec::new(alloc);
     let mut life: u32 = 0;

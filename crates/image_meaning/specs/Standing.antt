@@ -10,7 +10,8 @@ use Rattle.checkpoint_slots.specs.declared.slot.Slot.{Slot}
 use Rattle.checkpoint_slots.specs.Slot.{variables_of, read_slot, spelling}
 use Rattle.checkpoint_slots.specs.Image.{IsWellFormed}
 use Rattle.nv_log.specs.Record.{record_bytes, IsSpelled}
-use Rattle.recovery.specs.Committed.{Committed, IsCommitted, RestsAt, IsRecorded}
+use Rattle.cat_program.specs.Resting.{RestsAt}
+use Rattle.recovery.specs.Committed.{Committed, IsCommitted, IsRecorded}
 use Rattle.reference_run.specs.Reference.{Moment}
 
 -- the moment of a run that a committed value tells

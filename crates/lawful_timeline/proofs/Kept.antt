@@ -34,7 +34,7 @@ use Rattle.cn_scheduler.specs.declared.engine.Chunk.{Chunk}
 use Rattle.cn_scheduler.specs.declared.engine.Chunk.TheVariants.{Ended, Dropped, Lost, Over, Full}
 use Rattle.cn_scheduler.specs.InForce.{floor_at, version_of}
 use Rattle.cn_scheduler.specs.Paths.{last_outs, run_acts, run_outs}
-use Rattle.cn_scheduler.specs.Point.{FitsSlot, Point, Work, held_of, work_of}
+use Rattle.cn_scheduler.specs.Point.{FitsSlot, Point, Work, held_of, slot_of, work_of}
 use Rattle.cn_scheduler.specs.Policy.{Chooses}
 use Rattle.cn_scheduler.specs.Asked.{Asked, path_asks, plain, recording}
 use Rattle.cn_scheduler.specs.Chunks.{AreFit, CheckpointDoes, Commits, JobAsks, JobDoes, Leaves, SectionDoes, SleepDoes, WakeDoes, after_job, after_section, is_last, job_asks, no_floor, ran_of, task_limits, wake_asks}
@@ -72,27 +72,31 @@ module _ (program : Checked) (plan : Plan) (laws : Laws program plan) (set_up : 
     pub start : last_start_of m.entries ≤ b.tick
     pub start_saved : last_start_of v.entries ≤ b.tick
     pub clean : dirty ≡ false → m ≡ moment_of v
+    pub same : dirty ≡ false → w ≡ work_of v.slot
     pub large : size_of plan.layout ≤ length b.image
 
-  -- the next decision point
-  pub record Next (m : Moment) (v : Committed) (outcome : Chunk) (q : Point) : Type 0 where
+  -- the next decision point, up to which at most one step was taken, and whose last job began by a tick
+  pub record Next (m : Moment) (v : Committed) (since : ℕ) (outcome : Chunk) (q : Point) : Type 0 where
     pub moment : Moment
     pub sound : Sound q.board q.work v moment q.dirty
     pub steps : outcome ≢ Lost → m.steps ≤ moment.steps
+    pub most : moment.steps ≤ m.steps + 1
+    pub begun : last_start_of moment.entries ≤ since
 
   -- what a chunk leaves
-  pub record Kept (v : Committed) (m : Moment) (outcome : Chunk) (old : State) (q : Point) : Type 0 where
+  pub record Kept (v : Committed) (m : Moment) (since : ℕ) (outcome : Chunk) (old : State) (q : Point) : Type 0 where
     pub value : Committed
     pub entries : List Entry
     pub timeline : q.board.timeline ≡ old.timeline ++ entries
     pub image : q.board.image ≡ image_by entries old.image
     pub grows : Grows plan.layout (setting_of program plan) v old.image entries value
-    pub next : is_last outcome ≡ false → Next m value outcome q
+    pub next : is_last outcome ≡ false → Next m value since outcome q
 
   -- back to what the image stands for
-  back : (m : Moment) (v : Committed) (outcome : Chunk) (q : Point) → q.work ≡ work_of (committed_slot plan.layout q.board.image) → IsCommitted plan.layout program q.board.image v
-      → IsOwn (setting_of program plan) (moment_of v) → last_start_of v.entries ≤ q.board.tick → size_of plan.layout ≤ length q.board.image → (outcome ≢ Lost → m.steps ≤ v.slot.steps) → Next m v outcome q
-  back m v outcome q work committed own start large steps =
+  back : (m : Moment) (v : Committed) (since : ℕ) (outcome : Chunk) (q : Point) → q.work ≡ work_of (committed_slot plan.layout q.board.image) → IsCommitted plan.layout program q.board.image v
+      → IsOwn (setting_of program plan) (moment_of v) → last_start_of v.entries ≤ since → since ≤ q.board.tick → size_of plan.layout ≤ length q.board.image → (outcome ≢ Lost → m.steps ≤ v.slot.steps)
+      → v.slot.steps ≤ m.steps + 1 → Next m v since outcome q
+  back m v since outcome q work committed own begun later large steps most =
       let work_is : q.work ≡ work_of v.slot = work ∙ ap work_of committed.slot_is in
       record {
         moment = moment_of v;
@@ -101,12 +105,15 @@ module _ (program : Checked) (plan : Plan) (laws : Laws program plan) (set_up : 
           own = own;
           holds = subst (λ (w : Work). Holds program plan q.board.image w (moment_of v)) (sym work_is) (committed_holds program plan set_up q.board.image v committed own);
           ahead = laws.ordered.itself (moment_of v) own;
-          start = start;
-          start_saved = start;
+          start = omega arith;
+          start_saved = omega arith;
           clean = λ is. refl;
+          same = λ is. work_is;
           large = large;
         };
         steps = steps;
+        most = most;
+        begun = begun;
       }
 
   holds_on : (old new : List ℕ) (w : Work) (m : Moment) → Holds program plan old w m → Spells plan.layout program new m.entries → Holds program plan new w m
@@ -118,15 +125,18 @@ module _ (program : Checked) (plan : Plan) (laws : Laws program plan) (set_up : 
   }
 
   module _ (b : State) (w : Work) (v : Committed) (m : Moment) (dirty : Bool) (sound : Sound b w v m dirty) where
-    low : v.slot.len ≤ w.len
+    pub low : v.slot.len ≤ w.len
     low =
         let many = sound.committed.recorded.many in
         let len = sound.holds.works.len in
         let longer : length m.entries ≡ length v.entries + length sound.ahead.entries.0 = ap length sound.ahead.entries.1 ∙ length-append v.entries sound.ahead.entries.0 in
         omega arith
 
+    few_saved : v.slot.steps ≤ m.steps + 1
+    few_saved = let a = sound.ahead.steps in omega arith
+
     -- operations behind the working value's records leave what is committed
-    kept_left : (floor : ℕ → ℕ) (outcome : Chunk) (q : Point) (left : Left plan.layout program w.len floor b q.board) → (is_last outcome ≡ false → Next m v outcome q) → Kept v m outcome b q
+    kept_left : (floor : ℕ → ℕ) (outcome : Chunk) (q : Point) (left : Left plan.layout program w.len floor b q.board) → (is_last outcome ≡ false → Next m v b.tick outcome q) → Kept v m b.tick outcome b q
     kept_left floor outcome q left next = record {
       value = v;
       entries = left.entries;
@@ -144,7 +154,7 @@ module _ (program : Checked) (plan : Plan) (laws : Laws program plan) (set_up : 
       still_spelled = left.spells m.entries (let len = sound.holds.works.len in omega arith) sound.holds.works.spells
 
       -- the working value stays
-      stays : (outcome : Chunk) → q.work ≡ w → q.dirty ≡ dirty → Next m v outcome q
+      stays : (outcome : Chunk) → q.work ≡ w → q.dirty ≡ dirty → Next m v b.tick outcome q
       stays outcome work same = record {
         moment = m;
         sound = record {
@@ -155,32 +165,34 @@ module _ (program : Checked) (plan : Plan) (laws : Laws program plan) (set_up : 
           start = (let a = sound.start in let t = left.tick in omega arith);
           start_saved = (let a = sound.start_saved in let t = left.tick in omega arith);
           clean = λ is. sound.clean (sym same ∙ is);
+          same = λ is. work ∙ sound.same (sym same ∙ is);
           large = (let a = sound.large in let s = left.size in omega arith);
         };
         steps = λ not_lost. omega arith;
+        most = omega arith;
+        begun = sound.start;
       }
 
       -- it is the committed one again
-      goes_back : (outcome : Chunk) → q.work ≡ work_of (committed_slot plan.layout q.board.image) → (outcome ≢ Lost → m.steps ≤ v.slot.steps) → Next m v outcome q
-      goes_back outcome work steps =
-          back m v outcome q work still_committed sound.own (let a = sound.start_saved in let t = left.tick in omega arith) (let a = sound.large in let s = left.size in omega arith) steps
+      goes_back : (outcome : Chunk) → q.work ≡ work_of (committed_slot plan.layout q.board.image) → (outcome ≢ Lost → m.steps ≤ v.slot.steps) → Next m v b.tick outcome q
+      goes_back outcome work steps = back m v b.tick outcome q work still_committed sound.own sound.start_saved left.tick (let a = sound.large in let s = left.size in omega arith) steps few_saved
 
     -- ---- wake and sleep
 
-    pub kept_wake : (outcome : Chunk) (q : Point) → WakeDoes plan (record { board = b; work = w; dirty = dirty }) outcome q → Kept v m outcome b q
+    pub kept_wake : (outcome : Chunk) (q : Point) → WakeDoes plan (record { board = b; work = w; dirty = dirty }) outcome q → Kept v m b.tick outcome b q
     kept_wake outcome q does = kept_left (λ t. 0) outcome q (left outcome does.asked) (next outcome does.leaves (left outcome does.asked))
       where
         left : (o : Chunk) → Asked (no_floor plan) b (plain op.Wake ∷ []) o q.board → Left plan.layout program w.len (λ t. 0) b q.board
         left o asked = asked_left program plan.layout laws.safe w.len (λ t. 0) (plain op.Wake ∷ []) o b q.board ((λ room. tt), tt) sound.large asked
 
-        next : (o : Chunk) → Leaves plan (record { board = b; work = w; dirty = dirty }) w dirty o q → Left plan.layout program w.len (λ t. 0) b q.board → is_last o ≡ false → Next m v o q
+        next : (o : Chunk) → Leaves plan (record { board = b; work = w; dirty = dirty }) w dirty o q → Left plan.layout program w.len (λ t. 0) b q.board → is_last o ≡ false → Next m v b.tick o q
         next Ended leaves l is = stays (λ t. 0) q l Ended leaves.0 leaves.1
         next Dropped leaves l is = stays (λ t. 0) q l Dropped leaves.0 leaves.1
         next Lost leaves l is = goes_back (λ t. 0) q l Lost leaves.work_is (λ not. absurd (not refl))
         next Over leaves l is = absurd (no_path is)
         next Full leaves l is = absurd (no_path is)
 
-    pub kept_sleep : (outcome : Chunk) (q : Point) → dirty ≡ false → SleepDoes plan (record { board = b; work = w; dirty = dirty }) outcome q → Kept v m outcome b q
+    pub kept_sleep : (outcome : Chunk) (q : Point) → dirty ≡ false → SleepDoes plan (record { board = b; work = w; dirty = dirty }) outcome q → Kept v m b.tick outcome b q
     kept_sleep outcome q clean does = kept_left (λ t. 0) outcome q (left outcome does.asked) (next outcome does.leaves (left outcome does.asked))
       where
         left : (o : Chunk) → Asked (no_floor plan) b (plain op.Sleep ∷ []) o q.board → Left plan.layout program w.len (λ t. 0) b q.board
@@ -189,7 +201,7 @@ module _ (program : Checked) (plan : Plan) (laws : Laws program plan) (set_up : 
         same_steps : m.steps ≤ v.slot.steps
         same_steps = let e : m.steps ≡ v.slot.steps = ap (λ (x : Moment). x.steps) (sound.clean clean) in omega arith
 
-        next : (o : Chunk) → Leaves plan (record { board = b; work = w; dirty = dirty }) (work_of (committed_slot plan.layout q.board.image)) false o q → Left plan.layout program w.len (λ t. 0) b q.board → is_last o ≡ false → Next m v o q
+        next : (o : Chunk) → Leaves plan (record { board = b; work = w; dirty = dirty }) (work_of (committed_slot plan.layout q.board.image)) false o q → Left plan.layout program w.len (λ t. 0) b q.board → is_last o ≡ false → Next m v b.tick o q
         next Ended leaves l is = goes_back (λ t. 0) q l Ended leaves.0 (λ not. same_steps)
         next Dropped leaves l is = stays (λ t. 0) q l Dropped leaves.0 leaves.1
         next Lost leaves l is = goes_back (λ t. 0) q l Lost leaves.work_is (λ not. same_steps)
@@ -215,11 +227,12 @@ module _ (program : Checked) (plan : Plan) (laws : Laws program plan) (set_up : 
           (subst (λ (x : Moment). IsEarlier (setting_of program plan) (moment_of v) x) (sym moment_is) sound.ahead) b.image sound.large sound.committed
           (ready_of program plan set_up b.image w m sound.holds fits) (λ t. 0) outcome b q.board refl asked
 
-      after_commit : (outcome : Chunk) (q : Point) → Commits plan w b outcome q.board → Leaves plan (record { board = b; work = w; dirty = dirty }) w false outcome q
-          → (done : Saved plan.layout (setting_of program plan) v (value_of program plan set_up w m) b.image outcome b q.board) → is_last outcome ≡ false → Next m done.value outcome q
-      after_commit Ended q asked leaves done is =
+      after_commit : (since : ℕ) → last_start_of m.entries ≤ since → last_start_of v.entries ≤ since → since ≤ b.tick → (outcome : Chunk) (q : Point) → Commits plan w b outcome q.board
+          → Leaves plan (record { board = b; work = w; dirty = dirty }) w false outcome q → (done : Saved plan.layout (setting_of program plan) v (value_of program plan set_up w m) b.image outcome b q.board)
+          → is_last outcome ≡ false → Next m done.value since outcome q
+      after_commit since begun begun_saved later Ended q asked leaves done is =
           let same : done.value ≡ value_of program plan set_up w m = done.ended refl in
-          subst (λ (x : Committed). Next m x Ended q) (sym same) (record {
+          subst (λ (x : Committed). Next m x since Ended q) (sym same) (record {
             moment = m;
             sound = record {
               committed = subst (λ (x : Committed). IsCommitted plan.layout program q.board.image x) same done.committed;
@@ -229,26 +242,38 @@ module _ (program : Checked) (plan : Plan) (laws : Laws program plan) (set_up : 
               start = (let a = sound.start in let t = done.tick in omega arith);
               start_saved = (let a = sound.start in let t = done.tick in omega arith);
               clean = λ is. sym moment_is;
+              same = λ is. leaves.0 ∙ again;
               large = (let a = sound.large in let s = done.size in omega arith);
             };
             steps = λ not. omega arith;
+            most = omega arith;
+            begun = begun;
           })
-      after_commit Dropped q asked leaves done is = absurd (never_dropped plan _ b q.board asked)
-      after_commit Lost q asked leaves done is =
-          back m done.value Lost q leaves.work_is done.committed (own_of done.value done.one_of) (start_of done.value done.one_of (let t = done.tick in t)) (let a = sound.large in let s = done.size in omega arith) (λ not. absurd (not refl))
+        where
+          again : w ≡ work_of (slot_of w)
+          again = let words = sym fits.words in λ k. record w { words = words k }
+      after_commit since begun begun_saved later Dropped q asked leaves done is = absurd (never_dropped plan _ b q.board asked)
+      after_commit since begun begun_saved later Lost q asked leaves done is =
+          back m done.value since Lost q leaves.work_is done.committed (own_of done.value done.one_of) (start_of done.value done.one_of) (let t = done.tick in omega arith)
+          (let a = sound.large in let s = done.size in omega arith) (λ not. absurd (not refl)) (few_of done.value done.one_of)
         where
           own_of : (x : Committed) → (x ≡ v) ⊎ (x ≡ value_of program plan set_up w m) → IsOwn (setting_of program plan) (moment_of x)
           own_of x (inl same) = subst (λ (y : Committed). IsOwn (setting_of program plan) (moment_of y)) (sym same) sound.own
           own_of x (inr same) = subst (λ (y : Committed). IsOwn (setting_of program plan) (moment_of y)) (sym same) own_kept
 
-          start_of : (x : Committed) → (x ≡ v) ⊎ (x ≡ value_of program plan set_up w m) → b.tick ≤ q.board.tick → last_start_of x.entries ≤ q.board.tick
-          start_of x (inl same) later = let e : last_start_of x.entries ≡ last_start_of v.entries = ap (λ (y : Committed). last_start_of y.entries) same in let a = sound.start_saved in omega arith
-          start_of x (inr same) later = let e : last_start_of x.entries ≡ last_start_of m.entries = ap (λ (y : Committed). last_start_of y.entries) same in let a = sound.start in omega arith
-      after_commit Over q asked leaves done is = absurd (no_path is)
-      after_commit Full q asked leaves done is = absurd (no_path is)
+          start_of : (x : Committed) → (x ≡ v) ⊎ (x ≡ value_of program plan set_up w m) → last_start_of x.entries ≤ since
+          start_of x (inl same) = let e : last_start_of x.entries ≡ last_start_of v.entries = ap (λ (y : Committed). last_start_of y.entries) same in omega arith
+          start_of x (inr same) = let e : last_start_of x.entries ≡ last_start_of m.entries = ap (λ (y : Committed). last_start_of y.entries) same in omega arith
 
-    pub kept_checkpoint : (outcome : Chunk) (q : Point) → CheckpointDoes plan (record { board = b; work = w; dirty = dirty }) outcome q → Kept v m outcome b q
-    kept_checkpoint outcome q does =
+          few_of : (x : Committed) → (x ≡ v) ⊎ (x ≡ value_of program plan set_up w m) → x.slot.steps ≤ m.steps + 1
+          few_of x (inl same) = let e : x.slot.steps ≡ v.slot.steps = ap (λ (y : Committed). y.slot.steps) same in let few = few_saved in omega arith
+          few_of x (inr same) = let e : x.slot.steps ≡ w.steps = ap (λ (y : Committed). y.slot.steps) same in let s = sound.holds.works.steps in omega arith
+      after_commit since begun begun_saved later Over q asked leaves done is = absurd (no_path is)
+      after_commit since begun begun_saved later Full q asked leaves done is = absurd (no_path is)
+
+    pub kept_commit : (since : ℕ) → last_start_of m.entries ≤ since → last_start_of v.entries ≤ since → since ≤ b.tick → (outcome : Chunk) (q : Point)
+        → CheckpointDoes plan (record { board = b; work = w; dirty = dirty }) outcome q → Kept v m since outcome b q
+    kept_commit since begun begun_saved later outcome q does =
         let done : Saved plan.layout (setting_of program plan) v (value_of program plan set_up w m) b.image outcome b q.board = commit does.fits outcome q does.asked in
         record {
           value = done.value;
@@ -256,8 +281,11 @@ module _ (program : Checked) (plan : Plan) (laws : Laws program plan) (set_up : 
           timeline = done.timeline;
           image = done.image;
           grows = done.grows;
-          next = after_commit does.fits outcome q does.asked does.leaves done;
+          next = after_commit does.fits since begun begun_saved later outcome q does.asked does.leaves done;
         }
+
+    pub kept_checkpoint : (outcome : Chunk) (q : Point) → CheckpointDoes plan (record { board = b; work = w; dirty = dirty }) outcome q → Kept v m b.tick outcome b q
+    kept_checkpoint outcome q does = kept_commit b.tick sound.start sound.start_saved (omega arith) outcome q does
 
     -- ---- a section
 
@@ -288,7 +316,7 @@ module _ (program : Checked) (plan : Plan) (laws : Laws program plan) (set_up : 
           (path_spells program plan.layout laws.safe (run_acts plan.code run) (floor_at plan.rows) w.len m.entries b q.board sound.holds.works.len (subst AreFit (sym put_out.outs) fits) sound.large asked sound.holds.works.spells)
 
       after_acting : (q : Point) → Asked (task_limits plan) b (path_asks plan.layout w.len (run_acts plan.code run)) Ended q.board → AreFit (run_outs run) → q.work ≡ after_section w run → q.dirty ≡ true
-          → Left plan.layout program w.len (floor_at plan.rows) b q.board → Next m v Ended q
+          → Left plan.layout program w.len (floor_at plan.rows) b q.board → Next m v b.tick Ended q
       after_acting q asked fits work dirty_is l =
           let started = laws.tells.step_start (body_at program) m (after_step m stepped.step) (section_next program plan set_up m run stepped) in
           record {
@@ -302,16 +330,19 @@ module _ (program : Checked) (plan : Plan) (laws : Laws program plan) (set_up : 
               start = (let a = sound.start in let t = l.tick in omega arith);
               start_saved = (let a = sound.start_saved in let t = l.tick in omega arith);
               clean = λ is. absurd (no_path (sym dirty_is ∙ is));
+              same = λ is. absurd (no_path (sym dirty_is ∙ is));
               large = (let a = sound.large in let s = l.size in omega arith);
             };
             steps = λ not. omega arith;
+            most = omega arith;
+            begun = (let a = sound.start in omega arith);
           }
 
-    pub kept_section : (outcome : Chunk) (q : Point) → SectionDoes plan (record { board = b; work = w; dirty = dirty }) outcome q → Kept v m outcome b q
+    pub kept_section : (outcome : Chunk) (q : Point) → SectionDoes plan (record { board = b; work = w; dirty = dirty }) outcome q → Kept v m b.tick outcome b q
     kept_section outcome q does = kept_left (floor_at plan.rows) outcome q (section_left outcome q does.run does.asked) (next outcome does.run does.is_section.payload does.is_section.ends does.asked does.fits does.leaves)
       where
         next : (o : Chunk) (run : Ended') (payload : ℤ) → until 1000000 Task plan.code (held_of w payload) ≡ Some run → (asked : Asked (task_limits plan) b (path_asks plan.layout w.len (run_acts plan.code run)) o q.board)
-            → (o ≡ Ended → AreFit (run_outs run)) → Leaves plan (record { board = b; work = w; dirty = dirty }) (after_section w run) true o q → is_last o ≡ false → Next m v o q
+            → (o ≡ Ended → AreFit (run_outs run)) → Leaves plan (record { board = b; work = w; dirty = dirty }) (after_section w run) true o q → is_last o ≡ false → Next m v b.tick o q
         next Ended run payload ends asked fits leaves is = after_acting run payload ends q asked (fits refl) leaves.0 leaves.1 (section_left Ended q run asked)
         next Dropped run payload ends asked fits leaves is = stays (floor_at plan.rows) q (section_left Dropped q run asked) Dropped leaves.0 leaves.1
         next Lost run payload ends asked fits leaves is = goes_back (floor_at plan.rows) q (section_left Lost q run asked) Lost leaves.work_is (λ not. absurd (not refl))
@@ -421,6 +452,7 @@ module _ (program : Checked) (plan : Plan) (laws : Laws program plan) (set_up : 
           start = (let t = left.tick in omega arith);
           start_saved = (let a = sound.start_saved in let t = left.tick in omega arith);
           clean = λ is. absurd (no_path is);
+          same = λ is. absurd (no_path is);
           large = (let a = sound.large in let s = left.size in omega arith);
         }
 
@@ -436,10 +468,12 @@ module _ (program : Checked) (plan : Plan) (laws : Laws program plan) (set_up : 
         by_outcome Full c l = tt
 
     kept_late : (mid : State) (outcome : Chunk) (q : Point) → Asked (no_floor plan) b (job_asks plan here due run) Ended mid → AreFit (run_outs run) → EntryFits (ran_of plan here due) → FitsSlot plan.layout (after_job w due run)
-        → Commits plan (after_job w due run) mid outcome q.board → Leaves plan here (after_job w due run) false outcome q → Kept v m outcome b q
+        → Commits plan (after_job w due run) mid outcome q.board → Leaves plan here (after_job w due run) false outcome q → Kept v m b.tick outcome b q
     kept_late mid outcome q asked fits ran_fits slot_fits commits leaves =
         let left : Left plan.layout program w.len (λ t. 0) b mid = job_left Ended mid asked in
-        let rest : Kept v served outcome mid q = kept_checkpoint mid (after_job w due run) v served true (sound_served mid asked fits ran_fits) outcome q (job_saves mid outcome q slot_fits commits leaves) in
+        let started : last_start_of served.entries ≡ b.tick = laws.tells.arrival_start m (handled (version_at program due.event (version_of plan.rows due)) due.payload m.state.store) due.event (version_of plan.rows due) m.steps b.tick due.index in
+        let rest : Kept v served b.tick outcome mid q =
+        kept_commit mid (after_job w due run) v served true (sound_served mid asked fits ran_fits) b.tick (omega arith) sound.start_saved left.tick outcome q (job_saves mid outcome q slot_fits commits leaves) in
         let along : Grows plan.layout (setting_of program plan) v b.image left.entries v = grows_along plan.layout (setting_of program plan) laws.ordered v b.image left.entries sound.own (left.along v (low b w v m dirty sound) sound.committed) in
         record {
           value = rest.value;
@@ -448,13 +482,13 @@ module _ (program : Checked) (plan : Plan) (laws : Laws program plan) (set_up : 
           image = rest.image ∙ ap (λ (i : List ℕ). image_by rest.entries i) left.image ∙ sym (image_by-append left.entries rest.entries b.image);
           grows = grows-append plan.layout (setting_of program plan) v v rest.value b.image left.entries rest.entries along
               (subst (λ (i : List ℕ). Grows plan.layout (setting_of program plan) v i rest.entries rest.value) left.image rest.grows);
-          next = λ is. (let n : Next served rest.value outcome q = rest.next is in record { moment = n.moment; sound = n.sound; steps = n.steps });
+          next = λ is. (let n : Next served rest.value b.tick outcome q = rest.next is in record { moment = n.moment; sound = n.sound; steps = n.steps; most = n.most; begun = n.begun });
         }
 
-    kept_early : (outcome : Chunk) (q : Point) → outcome ≢ Ended → Asked (no_floor plan) b (job_asks plan here due run) outcome q.board → Leaves plan here (after_job w due run) false outcome q → Kept v m outcome b q
+    kept_early : (outcome : Chunk) (q : Point) → outcome ≢ Ended → Asked (no_floor plan) b (job_asks plan here due run) outcome q.board → Leaves plan here (after_job w due run) false outcome q → Kept v m b.tick outcome b q
     kept_early outcome q not_ended asked leaves = kept_left b w v m dirty sound (λ t. 0) outcome q (job_left outcome q.board asked) (next outcome not_ended asked leaves)
       where
-        next : (o : Chunk) → o ≢ Ended → Asked (no_floor plan) b (job_asks plan here due run) o q.board → Leaves plan here (after_job w due run) false o q → is_last o ≡ false → Next m v o q
+        next : (o : Chunk) → o ≢ Ended → Asked (no_floor plan) b (job_asks plan here due run) o q.board → Leaves plan here (after_job w due run) false o q → is_last o ≡ false → Next m v b.tick o q
         next Ended not asked leaves is = absurd (not refl)
         next Dropped not asked leaves is = absurd (never_dropped plan (job_asks plan here due run) b q.board asked)
         next Lost not asked leaves is = goes_back b w v m dirty sound (λ t. 0) q (job_left Lost q.board asked) Lost leaves.work_is (λ no. absurd (no refl))
@@ -462,13 +496,13 @@ module _ (program : Checked) (plan : Plan) (laws : Laws program plan) (set_up : 
         next Full not asked leaves is = absurd (no_path is)
 
   pub kept_job : (b : State) (w : Work) (v : Committed) (m : Moment) (dirty : Bool) (sound : Sound b w v m dirty) (due : Due) → Chooses plan (record { board = b; work = w; dirty = dirty }) (Job due) → (outcome : Chunk) (q : Point)
-      → JobDoes plan (record { board = b; work = w; dirty = dirty }) due outcome q → Kept v m outcome b q
+      → JobDoes plan (record { board = b; work = w; dirty = dirty }) due outcome q → Kept v m b.tick outcome b q
   kept_job b w v m dirty sound due chosen outcome q does = by_asks does.asks
     where
       is_due : IsDue plan.queue (slice_index w.done) b.tick due
       is_due = chosen_due plan (record { board = b; work = w; dirty = dirty }) due chosen
 
-      by_asks : JobAsks plan (record { board = b; work = w; dirty = dirty }) due does.run outcome q.board → Kept v m outcome b q
+      by_asks : JobAsks plan (record { board = b; work = w; dirty = dirty }) due does.run outcome q.board → Kept v m b.tick outcome b q
       by_asks (Early not_ended asked) =
           kept_early b w v m dirty sound due is_due does.run does.is_handler.payload does.is_handler.entry does.is_handler.there does.is_handler.ends outcome q not_ended asked does.leaves
       by_asks (Late mid asked fits ran_fits slot_fits commits) =

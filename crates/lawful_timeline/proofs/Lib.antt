@@ -9,3 +9,4 @@ pub mod Lines
 pub mod Times
 pub mod Starts
 pub mod Turning
+pub mod Points

@@ -22,7 +22,7 @@ use Rattle.cn_scheduler.specs.Belongs.{BelongTogether}
 use Rattle.lawful_timeline.specs.Working.{IsSetUp, setting_of}
 use Rattle.lawful_timeline.specs.Claims.{Begins}
 use Rattle.lawful_timeline.specs.Starting.{StartsFresh, first_work}
-use Rattle.lawful_timeline.proofs.Works.{Holds, committed_holds, from_stands, shape_of}
+use Rattle.lawful_timeline.proofs.Works.{Holds, committed_holds, shape_of}
 
 module _ (program : Checked) (plan : Plan) (writes : WritesAreLocal) (parts : PartsAreApart plan.layout) (long : (s : Slot) → length (spelling plan.layout s) ≡ 64 * lines_of plan.layout)
     (one : ImagesStandForOne plan.layout program) (go_on : OwnRunsGoOn (setting_of program plan)) where
@@ -84,7 +84,7 @@ belong program plan p set_up b steps =
       ready = record {
         current = (moment_of b.stands.value).state.current;
         entries = b.stands.value.entries;
-        rests = from_stands program p.work.place (moment_of b.stands.value).state.current (holds.works.state (pos 0)).place;
+        rests = (holds.works.state (pos 0)).place;
         recorded = record { many = sym holds.works.len; entries_are = holds.works.spells; counted = holds.works.done };
         len_fits = (
             let e : p.work.len ≡ b.stands.value.slot.len = ap (λ (w : Work). w.len) work_is in

@@ -160,6 +160,12 @@ module _ (plan : Plan) where
       let all = task_section (has_step plan p.work && p.board.on && nat_le (need_at plan.rows p.board.tick) p.board.stored) (has_step plan p.work && not p.board.on && nat_le (level_at plan.rows p.board.tick) p.board.stored) p.dirty is in
       leb-true (need_at plan.rows p.board.tick) p.board.stored (and_parts (has_step plan p.work && p.board.on) (nat_le (need_at plan.rows p.board.tick) p.board.stored) all).1
 
+  pub section_on : (p : Point) (o : Option Due) → choice_with plan p o ≡ Section → p.board.on ≡ true
+  section_on p (Some e) is = absurd (job_no_section (nat_le (units_of plan.rows e) p.board.stored) p.dirty e is)
+  section_on p None is =
+      let all = task_section (has_step plan p.work && p.board.on && nat_le (need_at plan.rows p.board.tick) p.board.stored) (has_step plan p.work && not p.board.on && nat_le (level_at plan.rows p.board.tick) p.board.stored) p.dirty is in
+      (and_parts (has_step plan p.work) p.board.on (and_parts (has_step plan p.work && p.board.on) (nat_le (need_at plan.rows p.board.tick) p.board.stored) all).0).1
+
   -- ---- chunks
 
   job_rises : (p : Point) (due : Due) (run : Ended') (outcome : Chunk) (new : State) → TakeTime p.board → is_last outcome ≡ false → JobAsks plan p due run outcome new → p.board.tick < new.tick

@@ -1,17 +1,11 @@
 -- Timelines grow by turns.
-use Rattle.std.proofs.Common.{◌≡◌, ◌-◌, ◌<◌, ◌≤◌, false, [], refl, sym, ap, ◌∙◌, subst, arith}
-use Rattle.cn_base.specs.declared.TheConstants.{MOST_TICKS}
-use Rattle.cat_program.specs.Checked.{Checked}
+use Rattle.std.proofs.Common.{◌≡◌, ◌<◌, ◌≤◌, false, [], refl}
 use Rattle.nv_memory.specs.declared.device.Class.{Class}
-use Rattle.nv_memory.specs.Board.{IsSound, Start, State}
 use Rattle.cn_scheduler.specs.declared.plan.Plan.{Plan}
 use Rattle.cn_scheduler.specs.declared.engine.Chunk.{Chunk}
 use Rattle.cn_scheduler.specs.declared.engine.Chunk.TheVariants.{Ended}
-use Rattle.cn_scheduler.specs.declared.engine.End.{End}
 use Rattle.cn_scheduler.specs.Point.{Point}
 use Rattle.cn_scheduler.specs.Chunks.{is_last}
-use Rattle.lawful_timeline.specs.Working.{IsSetUp}
-use Rattle.lawful_timeline.specs.Claims.{Begins, EndsAs, IsReplayed, LawfulTimelinesHold}
 use Rattle.lawful_timeline.specs.Lines.{Reaches, Turned}
 use Rattle.lawful_timeline.specs.Lines.Turned.{Did, Slept}
 use Rattle.lawful_timeline.proofs.Lines.{reaches_asleep, reaches_more}

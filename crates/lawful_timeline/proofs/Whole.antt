@@ -20,7 +20,7 @@ use Rattle.cn_scheduler.specs.InForce.{floor_at}
 use Rattle.cn_scheduler.specs.Point.{Point, Work, work_of}
 use Rattle.cn_scheduler.specs.Policy.{Chooses}
 use Rattle.cn_scheduler.specs.Chunks.{Does, IsChunk, IsLawful, Link, entries_of, is_last, point_after}
-use Rattle.lawful_timeline.specs.Working.{IsSetUp, WorksAs, setting_of}
+use Rattle.lawful_timeline.specs.Working.{IsSetUp, setting_of}
 use Rattle.lawful_timeline.specs.Claims.{AreAbove, Begins, EachPoint, IsAtWork, HoldsThroughout, KeepsFloor, NeverFalls}
 use Rattle.lawful_timeline.proofs.Asking.{Left}
 use Rattle.lawful_timeline.proofs.Saving.{Grows, grows-append, image_by-append}
@@ -66,14 +66,14 @@ module _ (program : Checked) (plan : Plan) (laws : Laws program plan) (set_up : 
   -- ---- one chunk
 
   by_kind : (b : State) (w : Work) (v : Committed) (m : Moment) (dirty : Bool) → Sound program plan laws set_up b w v m dirty → (choice : Choice) (outcome : Chunk) (q : Point)
-      → Chooses plan (record { board = b; work = w; dirty = dirty }) choice → Does plan (record { board = b; work = w; dirty = dirty }) choice outcome q → Kept program plan laws set_up v m outcome b q
+      → Chooses plan (record { board = b; work = w; dirty = dirty }) choice → Does plan (record { board = b; work = w; dirty = dirty }) choice outcome q → Kept program plan laws set_up v m b.tick outcome b q
   by_kind b w v m dirty sound Section outcome q chosen does = kept_section program plan laws set_up b w v m dirty sound outcome q does
   by_kind b w v m dirty sound (Job due) outcome q chosen does = kept_job program plan laws set_up b w v m dirty sound due chosen outcome q does
   by_kind b w v m dirty sound Checkpoint outcome q chosen does = kept_checkpoint program plan laws set_up b w v m dirty sound outcome q does
   by_kind b w v m dirty sound Wake outcome q chosen does = kept_wake program plan laws set_up b w v m dirty sound outcome q does
   by_kind b w v m dirty sound Sleep outcome q chosen does = kept_sleep program plan laws set_up b w v m dirty sound outcome q (chosen_clean plan (record { board = b; work = w; dirty = dirty }) chosen) does
 
-  one_chunk : (p : Point) (c : Link) (v : Committed) (m : Moment) → Sound program plan laws set_up p.board p.work v m p.dirty → IsChunk plan p c → Kept program plan laws set_up v m c.outcome p.board c.after
+  pub one_chunk : (p : Point) (c : Link) (v : Committed) (m : Moment) → Sound program plan laws set_up p.board p.work v m p.dirty → IsChunk plan p c → Kept program plan laws set_up v m p.board.tick c.outcome p.board c.after
   one_chunk p c v m sound is = by_kind p.board p.work v m p.dirty sound c.choice c.outcome c.after is.chosen is.does
 
   section_floor : (p : Point) (v : Committed) (m : Moment) → Sound program plan laws set_up p.board p.work v m p.dirty → (choice : Choice) (outcome : Chunk) (q : Point) (entries : List Entry) → Does plan p choice outcome q
@@ -107,12 +107,12 @@ module _ (program : Checked) (plan : Plan) (laws : Laws program plan) (set_up : 
     steps : NeverFalls p cs
 
   -- a chunk's own entries
-  same_entries : (p : Point) (c : Link) (v : Committed) (m : Moment) (kept : Kept program plan laws set_up v m c.outcome p.board c.after) → IsChunk plan p c → kept.entries ≡ c.entries
+  same_entries : (p : Point) (c : Link) (v : Committed) (m : Moment) (kept : Kept program plan laws set_up v m p.board.tick c.outcome p.board c.after) → IsChunk plan p c → kept.entries ≡ c.entries
   same_entries p c v m kept is = append_cancel_left p.board.timeline kept.entries c.entries (sym kept.timeline ∙ is.timeline)
 
   ends : (p : Point) (c : Link) (v : Committed) (m : Moment) → Sound program plan laws set_up p.board p.work v m p.dirty → IsChunk plan p c → is_last c.outcome ≡ true → GoesOn p v (c ∷ [])
   ends p c v m sound is last =
-      let kept : Kept program plan laws set_up v m c.outcome p.board c.after = one_chunk p c v m sound is in
+      let kept : Kept program plan laws set_up v m p.board.tick c.outcome p.board c.after = one_chunk p c v m sound is in
       let same : kept.entries ≡ c.entries ++ [] = same_entries p c v m kept is ∙ sym (append-nil c.entries) in
       record {
         final = kept.value;
@@ -139,8 +139,8 @@ module _ (program : Checked) (plan : Plan) (laws : Laws program plan) (set_up : 
       by : (is_last c.outcome ≡ true) ⊎ (is_last c.outcome ≡ false) → ((x : Committed) (y : Moment) → Sound program plan laws set_up c.after.board c.after.work x y c.after.dirty → GoesOn c.after x cs) → GoesOn p v (c ∷ cs)
       by (inl last) later = subst (λ (l : List Link). GoesOn p v (c ∷ l)) (sym (lawful.1 last)) (ends p c v m sound lawful.0 last)
       by (inr on) later =
-          let kept : Kept program plan laws set_up v m c.outcome p.board c.after = one_chunk p c v m sound lawful.0 in
-          let next : Next program plan laws set_up m kept.value c.outcome c.after = kept.next on in
+          let kept : Kept program plan laws set_up v m p.board.tick c.outcome p.board c.after = one_chunk p c v m sound lawful.0 in
+          let next : Next program plan laws set_up m kept.value p.board.tick c.outcome c.after = kept.next on in
           let rest : GoesOn c.after kept.value cs = later kept.value next.moment next.sound in
           let same : kept.entries ≡ c.entries = same_entries p c v m kept lawful.0 in
           let image : c.after.board.image ≡ image_by c.entries p.board.image = kept.image ∙ ap (λ (es : List Entry). image_by es p.board.image) same in
@@ -165,14 +165,12 @@ module _ (program : Checked) (plan : Plan) (laws : Laws program plan) (set_up : 
 
   -- ---- from the beginning
 
-  pub holds_throughout : (p : Point) (cs : List Link) → Begins program plan p → IsLawful plan p cs → HoldsThroughout program plan p cs
-  holds_throughout p cs begins lawful =
-      let v = begins.stands.value in
+  pub sound_first : (p : Point) (begins : Begins program plan p) → Sound program plan laws set_up p.board p.work begins.stands.value (moment_of begins.stands.value) p.dirty
+  sound_first p begins =
       let committed : IsCommitted plan.layout program p.board.image begins.stands.value = begins.stands.committed in
       let own : IsOwn (setting_of program plan) (moment_of begins.stands.value) = subst (λ (x : Moment). IsOwn (setting_of program plan) x) (sym begins.stands.is) begins.own in
       let start : last_start_of begins.stands.value.entries ≤ p.board.tick = subst (λ (x : Moment). last_start_of x.entries ≤ p.board.tick) (sym begins.stands.is) begins.start in
       let work_is : p.work ≡ work_of begins.stands.value.slot = begins.work_is ∙ ap work_of begins.stands.committed.slot_is in
-      let sound : Sound program plan laws set_up p.board p.work begins.stands.value (moment_of begins.stands.value) p.dirty =
       record {
         committed = committed;
         own = own;
@@ -181,17 +179,23 @@ module _ (program : Checked) (plan : Plan) (laws : Laws program plan) (set_up : 
         start = start;
         start_saved = start;
         clean = λ is. refl;
+        same = λ is. work_is;
         large = begins.large;
-      } in
-      let all : GoesOn p begins.stands.value cs = all_chunks cs p begins.stands.value (moment_of begins.stands.value) sound lawful in
+      }
+
+  pub holds_throughout : (p : Point) (cs : List Link) → Begins program plan p → IsLawful plan p cs → HoldsThroughout program plan p cs
+  holds_throughout p cs begins lawful =
+      let sound = sound_first p begins in
+      let committed : IsCommitted plan.layout program p.board.image begins.stands.value = begins.stands.committed in
+      let all : GoesOn p begins.stands.value cs = all_chunks cs p begins.stands.value (moment_of begins.stands.value) (sound_first p begins) lawful in
       record {
         timeline = all.timeline;
         image = all.image;
         images = λ i le. (
-            let at : At (image_by (take i (entries_of cs)) p.board.image) begins.stands.value = at_index p.board.image (entries_of cs) begins.stands.value all.final committed own all.grows i in
+            let at : At (image_by (take i (entries_of cs)) p.board.image) begins.stands.value = at_index p.board.image (entries_of cs) begins.stands.value all.final committed sound.own all.grows i in
             (moment_of at.value, record { value = at.value; committed = at.committed; is = refl }, at.own, laws.go_on.served (moment_of at.value) at.own)
             );
-        earlier = λ i j m n le within first second. in_order p.board.image (entries_of cs) begins.stands.value all.final committed own all.grows i j m n le first second;
+        earlier = λ i j m n le within first second. in_order p.board.image (entries_of cs) begins.stands.value all.final committed sound.own all.grows i j m n le first second;
         points = all.points;
         floor = all.floor;
         steps = all.steps;

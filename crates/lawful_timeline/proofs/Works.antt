@@ -9,14 +9,13 @@ use Rattle.std.proofs.lemmas.List.FromFn.{length-range_with_len}
 use Rattle.std.proofs.lemmas.Option.{slice_get_within}
 use Rattle.cat_program.specs.declared.outs.LogEntry.{LogEntry}
 use Rattle.cat_program.specs.declared.outs.LogEntry.TheVariants.{Ran}
-use Rattle.cat_program.specs.Body.{Body}
 use Rattle.cat_program.specs.Meaning.{Output, TaskState, handled}
 use Rattle.cat_program.specs.OutsValue.{entry_of}
-use Rattle.cat_program.specs.Checked.{Checked, body_at, program_marks, version_at}
+use Rattle.cat_program.specs.Checked.{Checked, body_at, version_at}
 use Rattle.cat_machine.specs.declared.instr.Did.{Did}
 use Rattle.cat_machine.specs.declared.instr.Did.TheVariants.{Went, Acted, Ended, Emitted}
 use Rattle.cat_machine.specs.Machine.{Ended'}
-use Rattle.cat_machine.specs.Fits.{HasShape, StandsFor, stepped_of}
+use Rattle.cat_machine.specs.Fits.{HasShape, stepped_of}
 use Rattle.cat_machine.specs.Ending.{SectionEnds, HandlerEnds}
 use Rattle.checkpoint_slots.specs.declared.slot.Slot.{Slot}
 use Rattle.checkpoint_slots.specs.Numbers.{number_at}
@@ -25,7 +24,7 @@ use Rattle.checkpoint_slots.specs.Image.{committed_bytes}
 use Rattle.event_arrivals.specs.Arrivals.{Lists, arrival_at, arrival_by}
 use Rattle.event_arrivals.specs.Next.{IsNext}
 use Rattle.event_arrivals.specs.declared.arrival.Arrival.{Arrival}
-use Rattle.recovery.specs.Committed.{Committed, IsCommitted, RestsAt}
+use Rattle.recovery.specs.Committed.{Committed, IsCommitted}
 use Rattle.reference_run.specs.Reference.{Moment, after_step, entries_of, next_moment, with_handled}
 use Rattle.logged_runs.specs.Own.{IsOwn}
 use Rattle.logged_runs.specs.Laws.{EntriesTell, counts_of}
@@ -38,20 +37,6 @@ use Rattle.cn_scheduler.specs.Paths.{last_outs, run_outs}
 use Rattle.cn_scheduler.specs.Point.{FitsSlot, Work, held_of, slot_of, work_of}
 use Rattle.cn_scheduler.specs.Chunks.{after_job, after_section}
 use Rattle.lawful_timeline.specs.Working.{IsSetUp, WorksAs, setting_of, versions_at, versions_in}
-
--- ---- places and lists
-
-to_stands : (program : Checked) (pc : Option ℕ) (current : Option Body) → RestsAt program pc current → StandsFor (program_marks program) pc current
-to_stands program None None rests = tt
-to_stands program None (Some body) rests = cc
-to_stands program (Some pc) None rests = let none = rests.2 in cc
-to_stands program (Some pc) (Some body) rests = let same : body ≡ rests.0 = (let e = rests.2 in cc) in rests.1 ∙ ap (λ (b : Body). Some b) (sym same)
-
-pub from_stands : (program : Checked) (pc : Option ℕ) (current : Option Body) → StandsFor (program_marks program) pc current → RestsAt program pc current
-from_stands program None None stands = refl
-from_stands program None (Some body) stands = absurd stands
-from_stands program (Some pc) None stands = absurd stands
-from_stands program (Some pc) (Some body) stands = (body, stands, refl)
 
 -- ---- what is next
 
@@ -108,7 +93,7 @@ module _ (program : Checked) (plan : Plan) (set_up : IsSetUp program plan) where
   pub committed_holds : (image : List ℕ) (v : Committed) → IsCommitted plan.layout program image v → IsOwn (setting_of program plan) (moment_of v) → Holds program plan image (work_of v.slot) (moment_of v)
   committed_holds image v is own = record {
     works = record {
-      state = λ payload. record { words = refl; posts = refl; place = to_stands program v.slot.pc v.current is.rests; free = refl; empty = refl };
+      state = λ payload. record { words = refl; posts = refl; place = is.rests; free = refl; empty = refl };
       steps = refl;
       len = sym is.recorded.many;
       done = is.recorded.counted;
@@ -129,7 +114,7 @@ module _ (program : Checked) (plan : Plan) (set_up : IsSetUp program plan) where
 
   pub ready_of : (image : List ℕ) (w : Work) (m : Moment) → Holds program plan image w m → FitsSlot plan.layout w → IsReady plan.layout program image (value_of w m)
   ready_of image w m holds fits = record {
-    rests = from_stands program w.place m.state.current (holds.works.state (pos 0)).place;
+    rests = (holds.works.state (pos 0)).place;
     recorded = record { many = sym holds.works.len; entries_are = holds.works.spells; counted = holds.works.done };
     storable = record { again = fits.again; formed = fits.formed };
   }

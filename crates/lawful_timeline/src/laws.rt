@@ -2,6 +2,7 @@ ghost use Rattle.cat_program.specs.Checked.{Checked};
 ghost use Rattle.cn_scheduler.specs.declared.plan.Plan.{Plan};
 ghost use Rattle.lawful_timeline.specs.Claims.{LawfulTimelinesHold};
 ghost use Rattle.lawful_timeline.specs.Lines.{TimelinesGrow};
+ghost use Rattle.lawful_timeline.specs.Points.{PointsHold};
 ghost use Rattle.lawful_timeline.specs.Starting.{StartsBelong};
 
 use cat_machine::runs_are_steps;
@@ -39,4 +40,19 @@ pub fn starts_belong()
     slots_are_read_again();
     images_stand_for_one();
     own_runs_go_on();
+}
+
+/// On a board whose operations take time plan, engine and board belong together at each decision point of a lawful timeline, and each
+/// job that began there began before it.
+pub fn points_hold()
+    ensures { (program : Checked) (plan : Plan) → PointsHold program plan }
+{
+    runs_are_steps();
+    commits_are_safe();
+    own_runs_go_on();
+    entries_tell();
+    earlier_runs_are_ordered();
+    commits_are_kept();
+    images_stand_for_one();
+    operations_are_safe();
 }

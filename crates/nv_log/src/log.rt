@@ -1,9 +1,9 @@
-ghost use Rattle.std.specs.Prelude.{◌≡◌, ◌≢◌, ◌+◌, ◌*◌, ◌<◌, ◌≤◌, ◌↔◌, IsTrue, length, true, Some, IfSome, slice_index};
+ghost use Rattle.std.specs.Prelude.{◌≡◌, ◌≢◌, ◌+◌, ◌*◌, ◌<◌, ◌≤◌, ◌↔◌, IsTrue, length, true, Some};
 ghost use Rattle.nv_memory.specs.Bytes.{bytes_at};
-ghost use Rattle.nv_memory.specs.Layout.{size_of, record_at, record_len};
+ghost use Rattle.nv_memory.specs.Layout.{size_of, record_len};
 ghost use Rattle.cat_program.specs.Checked.{HasVersion};
-ghost use Rattle.nv_memory.specs.Board.{Steps};
-ghost use Rattle.nv_log.specs.Record.{record_of, record_bytes, record_with, IsFound};
+ghost use Rattle.nv_memory.specs.Board.{Steps, IsSound};
+ghost use Rattle.nv_log.specs.Record.{EntryFits, record_of, record_bytes, record_with, IsFound};
 ghost use Rattle.std.specs.Int.{w32, to_le_bytes};
 ghost use Rattle.nv_log.specs.Append.{op_of, append_op, Puts, ChangesRecord};
 ghost use Rattle.nv_log.specs.PutOf.{put_of_answer};
@@ -32,6 +32,7 @@ pub enum Put {
 fn record(layout: &Layout, entry: &LogEntry) -> Line
     ensures bytes { result ≡ record_of layout.now entry.now }
     ensures length { length result ≡ record_len layout.now }
+    ensures fits { EntryFits entry.now }
 {
     let (head, first, second, third) = match entry {
         LogEntry::Out { channel, value } => ([1, *channel, 0, 0], value.cast_unsigned(), 0, 0),
@@ -69,6 +70,7 @@ fn write_by<B: Board>(board: &mut B, at: u32, bytes: &[u8], by: By) -> Answer
     requires in_image { at + length bytes.now ≤ length (B.state board.old).image }
     ensures step { Steps (B.state board.old) (op_of by at bytes.now) result (B.state board.new) }
     ensures origin { B.origin board.new ≡ B.origin board.old }
+    ensures sound { IsSound (B.start (B.origin board.new)) (B.state board.new) }
 {
     match by {
         By::Write => board.write(at, bytes),
@@ -88,14 +90,16 @@ pub fn append<B: Board>(board: &mut B, layout: &Layout, len: u32, entry: &LogEnt
     ensures keeps { ChangesRecord layout.now len (B.state board.old).image (B.state board.new).image }
     ensures done { result ≡ Put.Done → record_bytes layout.now len (B.state board.new).image ≡ record_of layout.now entry.now }
     ensures origin { B.origin board.new ≡ B.origin board.old }
+    ensures sound { result ≢ Put.Full → IsSound (B.start (B.origin board.new)) (B.state board.new) }
+    ensures fits { EntryFits entry.now }
 {
     writes_are_local();
     parts_are_apart();
+    let line = record(layout, entry);
     if len == layout.log {
         return Put::Full;
     }
     let at = layout.log_at() + layout.record_len() * len;
-    let line = record(layout, entry);
     let answer = write_by(board, at, line.bytes(), by);
     put_of(answer)
 }

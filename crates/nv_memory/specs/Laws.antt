@@ -1,12 +1,15 @@
 -- What holds of writes, of runs and of layouts, whatever they are: the crates above have it from the functions of src/laws.rt.
-use Rattle.std.specs.Prelude.{◌≡◌, ◌≢◌, ℕ, ◌+◌, ◌*◌, ◌<◌, ◌≤◌, List, [], ◌∷◌, ◌++◌, length, take, drop}
+use Rattle.std.specs.Prelude.{◌≡◌, ◌≢◌, ℕ, ◌+◌, ◌*◌, ◌<◌, ◌≤◌, Bool, List, [], ◌∷◌, ◌++◌, length, take, drop, slice_index}
+use Rattle.nv_memory.specs.declared.device.Class.{Class}
+use Rattle.nv_memory.specs.declared.device.Device.{Device}
 use Rattle.nv_memory.specs.declared.layout.Layout.{Layout}
 use Rattle.nv_memory.specs.declared.entry.Op.{Op}
 use Rattle.nv_memory.specs.declared.board.Answer.{Answer}
 use Rattle.nv_memory.specs.declared.board.Answer.TheVariants.{Done}
-use Rattle.nv_memory.specs.Bytes.{written, bytes_at}
+use Rattle.nv_memory.specs.Bytes.{written, bytes_at, repeated}
 use Rattle.nv_memory.specs.Layout.{cells_of, lines_of, slot_at, log_at, record_len, record_at, size_of}
-use Rattle.nv_memory.specs.Board.{State, Steps, Runs}
+use Rattle.nv_memory.specs.Board.{State, Start, IsSound, IsIn, Steps, Runs, after, image_after, leaving, left_of, ticks_of}
+use Rattle.nv_memory.specs.AnyBoard.{cost_of}
 
 -- a write changes the bytes of its range and no others
 pub record WritesAreLocal : Type 0 where
@@ -37,7 +40,7 @@ pub record RunsAreJoined : Type 0 where
 
 -- the gate, the slots, the log and its records stand apart
 pub record PartsAreApart (l : Layout) : Type 0 where
-  pub gate : (s : ℕ) → 1 ≤ slot_at l s
+  pub gate : (s : ℕ) → 64 ≤ slot_at l s
   pub slots : slot_at l 0 + 64 * lines_of l ≤ slot_at l 1
   pub log : (s : ℕ) → s ≤ 1 → slot_at l s + 64 * lines_of l ≤ log_at l
   pub records : (k place : ℕ) → k < place → record_at l k + record_len l ≤ record_at l place
@@ -47,3 +50,22 @@ pub record PartsAreApart (l : Layout) : Type 0 where
   -- a slot has a line at least, and its numbers fit into its lines
   pub some_lines : 1 ≤ lines_of l
   pub cells : cells_of l ≤ 16 * lines_of l
+
+-- what a layout's type keeps of its numbers makes no two layouts of the same ones
+abbrev pub LayoutsAreNumbers : Type 0
+LayoutsAreNumbers = (a b : Layout) → a.words ≡ b.words → a.tasks ≡ b.tasks → a.events ≡ b.events → a.log ≡ b.log → a ≡ b
+
+-- how long an operation takes, and where it writes with other bytes
+pub record OperationsAreBounded : Type 0 where
+  -- a class takes 1 to 1,000 ticks on each device, and so no operation takes none
+  pub some : (d : Device) (kind : Class) → 1 ≤ (cost_of d kind).ticks
+  pub few : (d : Device) (kind : Class) → (cost_of d kind).ticks ≤ 1000
+  pub ticks : (ticks : Class → ℕ) (op : Op) → ((kind : Class) → 1 ≤ ticks kind) → 1 ≤ ticks_of ticks op
+  -- a fill gives as many bytes as are asked for, and with as many bytes an operation writes inside the image again
+  pub filling : (fill : List ℕ) (n : ℕ) → length (repeated fill n) ≡ n
+  pub within : (op : Op) (bytes image : List ℕ) → length bytes ≡ length (left_of op) → IsIn op image → IsIn (leaving op bytes) image
+
+-- what holds of every board still holds after an operation, whatever it drew and what its ticks gave
+abbrev pub BoardsStaySound : Type 0
+BoardsStaySound = (start : Start) (s : State) (op : Op) (lost : Bool) (drawn : ℕ) (passed : List ℕ) → IsSound start s → IsIn op s.image → 1 ≤ length passed → s.tick + length passed ≤ s.life
+    → ((k : ℕ) → slice_index (image_after op s.image) k < 256) → IsSound start (after s op lost drawn passed)

@@ -93,3 +93,38 @@ fn a_lost_write_leaves_its_fill(rt: HostRuntime) -> Result<(), Fail> {
     assert_eq!(rt; board.stored(), 44);
     Ok(())
 }
+
+// The entry at a place, if there is one.
+fn entry_at(board: &AnyBoard, place: u32) -> Option<Entry> {
+    if place < board.entries() {
+        Some(board.entry(place))
+    } else {
+        None
+    }
+}
+
+fn is_instr(entry: &Entry, class: Class, pc: u32) -> bool {
+    match &entry.op {
+        Op::Instr { class: c, pc: p } => *c == class && *p == pc,
+        _ => false,
+    }
+}
+
+#[test]
+fn an_instruction_leaves_an_entry(rt: HostRuntime) -> Result<(), Fail> {
+    let alloc = rt.alloc();
+    let Ok(mut board) = board(alloc, 50, Vec::new(alloc), Vec::new(alloc)) else {
+        return Err("no memory".into());
+    };
+    assert!(rt; !board.on());
+    assert!(rt; board.wake() == Answer::Done);
+    assert!(rt; board.on());
+    assert!(rt; board.run(Class::Memory, 7) == Answer::Done);
+    let Some(entry) = entry_at(&board, 1) else {
+        return Err("no entry".into());
+    };
+    assert!(rt; is_instr(&entry, Class::Memory, 7));
+    assert!(rt; (entry.tick, entry.stored, entry.drawn) == (2, 45, 2));
+    assert!(rt; entry.ticks == 1 && !entry.lost);
+    Ok(())
+}

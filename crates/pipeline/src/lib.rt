@@ -4,6 +4,8 @@
 #[cfg(test)]
 mod events;
 #[cfg(test)]
+mod readers;
+#[cfg(test)]
 mod running;
 #[cfg(test)]
 mod sources;

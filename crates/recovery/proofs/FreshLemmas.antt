@@ -1,5 +1,5 @@
 -- The first image commits the first slot.
-use Rattle.std.proofs.Common.{◌≡◌, ◌≢◌, ℕ, ◌+◌, ◌*◌, ◌%◌, ◌<◌, ◌≤◌, List, [], length, get_or, refl, sym, ◌∙◌, ap, subst, arith, replicate, Option, None, Some}
+use Rattle.std.proofs.Common.{◌≡◌, ◌≢◌, ℕ, ◌+◌, ◌*◌, ◌%◌, ◌<◌, ◌≤◌, List, [], length, get_or, sym, ◌∙◌, ap, subst, arith, replicate, Option, None, Some}
 use Rattle.std.proofs.lemmas.List.{get_or-take, get_or-replicate, length-replicate}
 use Rattle.cat_program.specs.Checked.{Checked}
 use Rattle.nv_memory.specs.declared.layout.Layout.{Layout}
@@ -9,7 +9,8 @@ use Rattle.nv_memory.specs.Laws.{WritesAreLocal, PartsAreApart}
 use Rattle.checkpoint_slots.specs.declared.slot.Slot.{Slot}
 use Rattle.checkpoint_slots.specs.Slot.{spelling, read_slot}
 use Rattle.checkpoint_slots.specs.Image.{selected_of, slot_bytes, committed_bytes, IsWellFormed}
-use Rattle.recovery.specs.Committed.{RestsAt, IsCommitted}
+use Rattle.cat_program.specs.Resting.{RestsAt}
+use Rattle.recovery.specs.Committed.{IsCommitted}
 use Rattle.recovery.specs.First.{IsFirst, IsFresh}
 
 module _ (writes : WritesAreLocal) (program : Checked) (l : Layout) (parts : PartsAreApart l) (s : Slot) (first : IsFirst program l s)
@@ -51,7 +52,7 @@ module _ (writes : WritesAreLocal) (program : Checked) (l : Layout) (parts : Par
   }
     where
       rests : RestsAt program s.pc None
-      rests = subst (λ (pc : Option ℕ). RestsAt program pc None) (sym first.pc) refl
+      rests = subst (λ (pc : Option ℕ). RestsAt program pc None) (sym first.pc) tt
 
   pub fresh : (bytes : List ℕ) → bytes ≡ image → IsFresh program l bytes
   fresh bytes is = record {

@@ -15,7 +15,8 @@ use Rattle.checkpoint_slots.specs.Save.{IsSaved}
 use Rattle.checkpoint_slots.specs.Writes.{StandsForSame}
 use Rattle.nv_log.specs.Record.{record_bytes, IsSpelled}
 use Rattle.nv_log.specs.Append.{ChangesRecord}
-use Rattle.recovery.specs.Committed.{Committed, RestsAt, IsRecorded, IsCommitted, Commits}
+use Rattle.cat_program.specs.Resting.{RestsAt}
+use Rattle.recovery.specs.Committed.{Committed, IsRecorded, IsCommitted, Commits}
 
 module _ (writes : WritesAreLocal) (parts : (l : Layout) → PartsAreApart l) where
   -- images that agree before the log commit the same bytes

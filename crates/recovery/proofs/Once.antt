@@ -1,5 +1,5 @@
 -- An image has committed one value at most.
-use Rattle.std.proofs.Common.{◌≡◌, ℕ, ◌<◌, List, length, get_or, sym, ◌∙◌, ap, subst, arith, Option, Some, None}
+use Rattle.std.proofs.Common.{◌≡◌, ℕ, ◌<◌, List, length, get_or, refl, sym, ◌∙◌, ap, subst, arith, Option, Some, None}
 use Rattle.std.proofs.lemmas.List.{same_lists}
 use Rattle.std.proofs.lemmas.Option.{slice_get-get_or}
 use Rattle.cat_program.specs.Body.{Body}
@@ -7,11 +7,16 @@ use Rattle.cat_program.specs.Checked.{Checked}
 use Rattle.nv_memory.specs.declared.layout.Layout.{Layout}
 use Rattle.checkpoint_slots.specs.declared.slot.Slot.{Slot}
 use Rattle.nv_log.specs.Append.{EntriesAreSpelledOnce}
-use Rattle.recovery.specs.Committed.{Committed, RestsAt, IsCommitted}
+use Rattle.cat_program.specs.Resting.{RestsAt}
+use Rattle.recovery.specs.Committed.{Committed, IsCommitted}
 
 rests_once : (program : Checked) (pc : Option ℕ) (one other : Option Body) → RestsAt program pc one → RestsAt program pc other → one ≡ other
-rests_once program None one other a b = a ∙ sym b
-rests_once program (Some pc) one other a b = a.2 ∙ sym a.1 ∙ b.1 ∙ sym b.2
+rests_once program None None None a b = refl
+rests_once program None None (Some body) a b = absurd b
+rests_once program None (Some body) other a b = absurd a
+rests_once program (Some pc) None other a b = absurd a
+rests_once program (Some pc) (Some body) None a b = absurd b
+rests_once program (Some pc) (Some body) (Some other) a b = sym a ∙ b
 
 module _ (spelled : EntriesAreSpelledOnce) where
   pub once : (l : Layout) (program : Checked) (image : List ℕ) (v w : Committed) → IsCommitted l program image v → IsCommitted l program image w → v ≡ w

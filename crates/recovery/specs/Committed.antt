@@ -1,9 +1,10 @@
 -- What an image has committed.
-use Rattle.std.specs.Prelude.{◌≡◌, ◌⊎◌, ℕ, ◌<◌, Bool, false, List, length, Option, Some, None, slice_get, slice_index, count_by, ◌==◌}
+use Rattle.std.specs.Prelude.{◌≡◌, ◌⊎◌, ℕ, ◌<◌, Bool, false, List, length, Option, Some, slice_get, slice_index, count_by, ◌==◌}
 use Rattle.cat_program.specs.declared.outs.LogEntry.{LogEntry}
 use Rattle.cat_program.specs.declared.outs.LogEntry.TheVariants.{Out, Ran}
 use Rattle.cat_program.specs.Body.{Body}
-use Rattle.cat_program.specs.Checked.{Checked, rest_at}
+use Rattle.cat_program.specs.Checked.{Checked}
+use Rattle.cat_program.specs.Resting.{RestsAt}
 use Rattle.nv_memory.specs.declared.layout.Layout.{Layout}
 use Rattle.nv_memory.specs.declared.board.Answer.{Answer}
 use Rattle.nv_memory.specs.declared.board.Answer.TheVariants.{Done, Lost, Over}
@@ -21,11 +22,6 @@ pub record Committed : Type 0 where
   pub slot : Slot
   pub current : Option Body
   pub entries : List LogEntry
-
--- a place of the code stands for a list, and no place for none
-abbrev pub RestsAt : Checked → Option ℕ → Option Body → Type 0
-RestsAt program None current = current ≡ None
-RestsAt program (Some pc) current = (body : Body) × (rest_at program pc ≡ Some body) × (current ≡ Some body)
 
 -- the log of the image has these entries, and the slot counts them
 pub record IsRecorded (l : Layout) (program : Checked) (image : List ℕ) (v : Committed) : Type 0 where

@@ -9,7 +9,9 @@ use Rattle.checkpoint_slots.specs.Image.{committed_bytes, log_bytes, IsWellForme
 use Rattle.checkpoint_slots.specs.Save.{IsSaved}
 use Rattle.checkpoint_slots.specs.Writes.{StandsForSame}
 use Rattle.nv_log.specs.Append.{ChangesRecord}
-use Rattle.recovery.specs.Committed.{Committed, RestsAt, IsCommitted, IsRecorded, Commits}
+use Rattle.cat_program.specs.Resting.{RestsAt}
+use Rattle.recovery.specs.Committed.{Committed, IsCommitted, IsRecorded, Commits}
+use Rattle.recovery.specs.First.{IsFresh}
 
 pub record CommitsLast : Type 0 where
   -- an image has committed one value at most
@@ -24,3 +26,7 @@ pub record CommitsLast : Type 0 where
   -- a whole save leaves the old value or the new one, whose entries are recorded before
   pub save : (l : Layout) (program : Checked) (before after : State) (old new : Committed) → IsCommitted l program before.image old → RestsAt program new.slot.pc new.current
       → IsRecorded l program before.image new → IsWellFormed l (spelling l new.slot) → read_slot l (spelling l new.slot) ≡ new.slot → (answer : Answer) → IsSaved l new.slot before answer after → Commits l program old new after.image answer
+
+-- a program has one first image in a layout
+abbrev pub FirstImageIsOne : Type 0
+FirstImageIsOne = (program : Checked) (l : Layout) (a b : List ℕ) → IsFresh program l a → IsFresh program l b → a ≡ b

@@ -1,3 +1,4 @@
 pub mod Committed
 pub mod First
 pub mod Laws
+pub mod Past

@@ -1,4 +1,4 @@
-ghost use Rattle.recovery.specs.Laws.{CommitsLast};
+ghost use Rattle.recovery.specs.Laws.{CommitsLast, FirstImageIsOne};
 
 use nv_log::entries_are_spelled_once;
 use nv_memory::{parts_are_apart, writes_are_local};
@@ -12,3 +12,8 @@ pub fn commits_last()
     parts_are_apart();
     entries_are_spelled_once();
 }
+
+/// A program has one first image in a layout.
+pub fn first_image_is_one()
+    ensures { FirstImageIsOne }
+{}

@@ -5,7 +5,9 @@
 mod fresh;
 mod laws;
 mod recovering;
+#[cfg(test)]
+mod tests;
 
 pub use fresh::fresh_image;
-pub use laws::commits_last;
+pub use laws::{commits_last, first_image_is_one};
 pub use recovering::recover;

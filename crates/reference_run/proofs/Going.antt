@@ -8,8 +8,8 @@ use Rattle.std.proofs.lemmas.Bool.{cases_lt}
 use Rattle.std.proofs.lemmas.Option.{slice_get_within, get_or_from_slice_get}
 use Rattle.std.specs.Prelude.{◌==◌, slice_get, count_by}
 use Rattle.cat_program.specs.Checked.{Checked, HasVersion, body_at}
+use Rattle.event_arrivals.specs.Spaced.{AreKnown}
 use Rattle.event_arrivals.specs.declared.arrival.Arrival.{Arrival}
-use Rattle.event_arrivals.proofs.Orders.{known}
 use Rattle.reference_run.specs.declared.run.Run.{Run}
 use Rattle.reference_run.specs.declared.schedule.Item.{Item}
 use Rattle.reference_run.specs.Held.{HasAdvanced, HasHandled, IsAt, IsFirst, moment_of}
@@ -21,12 +21,12 @@ earlier_more items i item there =
     ∙ ap (λ x. x ∷ reverse (take i items)) (get_or_from_slice_get items i item item there)
 
 -- the event of an item that may come is known
-pub event_known : (s : Setting) (last : ℕ) (done : ℕ → ℕ) (item : Item) (arrival : Arrival) → AreFor s → MayHandle s last done item arrival → item.event < length s.program.events
-event_known s last done item arrival belong may = omega (arith, known s.arrivals item.event (done item.event) arrival may.next.pending.is_it, belong.arrivals)
+pub event_known : (s : Setting) → AreKnown s.arrivals → (last : ℕ) (done : ℕ → ℕ) (item : Item) (arrival : Arrival) → AreFor s → MayHandle s last done item arrival → item.event < length s.program.events
+event_known s known last done item arrival belong may = omega (arith, known item.event (done item.event) arrival may.next.pending.is_it, belong.arrivals)
 
-pub version_there : (s : Setting) (last : ℕ) (done : ℕ → ℕ) (item : Item) (arrival : Arrival) → AreFor s → MayHandle s last done item arrival → HasVersion s.program item.event item.version
-version_there s last done item arrival belong may =
-    subst (HasVersion s.program item.event) may.version (belong.exist item.event (event_known s last done item arrival belong may))
+pub version_there : (s : Setting) → AreKnown s.arrivals → (last : ℕ) (done : ℕ → ℕ) (item : Item) (arrival : Arrival) → AreFor s → MayHandle s last done item arrival → HasVersion s.program item.event item.version
+version_there s known last done item arrival belong may =
+    subst (HasVersion s.program item.event) may.version (belong.exist item.event (event_known s known last done item arrival belong may))
 
 module _ (s : Setting) (items : List Item) (i : ℕ) (run : Run) (at : IsAt s items i run) where
   same_counts : slice_index run.done.items ≡ done_in (reverse (take i items))
@@ -88,11 +88,11 @@ counted earlier item done within counts event = elim (equal_or_not item.event ev
       get_or-set_other done item.event event (slice_index done item.event + 1) 0 ne ∙ counts event ∙ sym (count_other earlier item event other))
 ]
 
-pub taken : (s : Setting) (items : List Item) (i : ℕ) (run mid new : Run) (item : Item) (arrival : Arrival) → AreFor s → IsAt s items i run → slice_get items i ≡ Some item
+pub taken : (s : Setting) → AreKnown s.arrivals → (items : List Item) (i : ℕ) (run mid new : Run) (item : Item) (arrival : Arrival) → AreFor s → IsAt s items i run → slice_get items i ≡ Some item
     → MayHandle s run.start (slice_index run.done.items) item arrival → HasAdvanced s.program item.steps run mid → HasHandled s.program item arrival mid new → IsAt s items (i + 1) new
-taken s items i run mid new item arrival belong at there may went handled =
+taken s known items i run mid new item arrival belong at there may went handled =
     let earlier = reverse (take i items) in
-    let known_event = event_known s run.start (slice_index run.done.items) item arrival belong may in
+    let known_event = event_known s known run.start (slice_index run.done.items) item arrival belong may in
     let index : slice_index mid.done.items item.event ≡ done_in earlier item.event = ap (λ done. slice_index done item.event) went.beside.done ∙ at.counts item.event in
     let done : new.done.items ≡ set run.done.items item.event (slice_index run.done.items item.event + 1) = handled.done ∙ ap (λ done. set done item.event (slice_index done item.event + 1)) went.beside.done in
     let leads : Leads s earlier item (moment_of s.program run) (moment_of s.program new) = record {

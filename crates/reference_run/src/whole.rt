@@ -47,6 +47,7 @@ fn take_item(
     ensures went { IfOk result (λ went. went ≡ true → IsAt (setting_of program.now versions.now arrivals.now) items.now (i + 1) run.new) }
     ensures broke { IfOk result (λ went. went ≡ false → IsBroken (setting_of program.now versions.now arrivals.now) items.now i) }
 {
+    arrivals.are_sound();
     let item = &items[i];
     let Some(arrival) = allowed(program, versions, arrivals, run, item) else {
         return Ok(false);

@@ -10,7 +10,8 @@ use Rattle.cat_machine.specs.declared.instr.Instr.{Instr}
 use Rattle.cat_machine.specs.declared.instr.Instr.TheVariants as i
 use Rattle.cat_machine.specs.CodeValue.{CodeValue, versions_at}
 use Rattle.cat_machine.specs.Code.{operands_code, simple_instr, body_code, tasks_code, tasks_entries, versions_code, versions_entries, events_code, events_entries, code_of}
-use Rattle.cat_compile.specs.Listing.{in_turn, heads, task_line, version_line, name_of, task_header, version_header, event_headers, place_lines, listing_text}
+use Rattle.cn_base.specs.Texts.{in_turn}
+use Rattle.cat_compile.specs.Listing.{heads, task_line, version_line, name_of, task_header, version_header, event_headers, place_lines, listing_text}
 use Rattle.cat_resolve.specs.Form.{commands}
 use Rattle.same_program.specs.Same.{IsSame}
 use Rattle.same_program.specs.Alike.{SimpleIsLike, sets, sets_at, emits, raises, IsLike, ends, simple, when, choice, loop, turns}

@@ -1,7 +1,7 @@
 -- A record that is committed after some entries was committed by one of them.
-use Rattle.std.proofs.Common.{◌≡◌, ℕ, zero, suc, ◌+◌, ◌-◌, ◌<◌, ◌≤◌, inl, inr, List, [], ◌∷◌, length, take, get_or, refl, sym, ap, subst, ◌∙◌, arith, Bool, true, false, All, Option, Some, None}
-use Rattle.std.specs.Prelude.{nat_lt, slice_get}
-use Rattle.std.specs.List.{AllByRecursion, range_with_len, position_or_len}
+use Rattle.std.proofs.Common.{◌≡◌, ℕ, zero, suc, ◌+◌, ◌-◌, ◌<◌, ◌≤◌, inl, inr, List, [], ◌∷◌, length, take, get_or, refl, sym, ap, subst, ◌∙◌, arith, true, false, Option, Some}
+use Rattle.std.specs.Prelude.{slice_get}
+use Rattle.std.specs.List.{AllByRecursion, range_with_len}
 use Rattle.std.specs.Option.{option_map_or}
 use Rattle.std.proofs.lemmas.Bool.{cases_lt}
 use Rattle.std.proofs.lemmas.Bool.Decides.{nat_tests}
@@ -9,7 +9,8 @@ use Rattle.std.proofs.lemmas.List.Elements.{recursion_from_All}
 use Rattle.std.proofs.lemmas.List.FromFn.{get_or-range_with_len}
 use Rattle.std.proofs.lemmas.List.Sums.{fails_before_first}
 use Rattle.nv_memory.specs.declared.entry.Entry.{Entry}
-use Rattle.timely_commits.specs.Past.{Past, committed_at, end_of, has_record, commit_of, done_at, CommitsInTime}
+use Rattle.recovery.specs.Past.{Past, committed_at, end_of, has_record, commit_of, done_at}
+use Rattle.timely_commits.specs.InTime.{CommitsInTime}
 
 entry_at : (timeline : List Entry) (i n d : ℕ) → i < n → n ≤ length timeline → AllByRecursion (λ entry. end_of entry ≤ d) (take n timeline) →
     (e : Entry) × (slice_get timeline i ≡ Some e) × (end_of e ≤ d)

@@ -1,2 +1,3 @@
 mod InTime
 mod Told
+mod Fresh

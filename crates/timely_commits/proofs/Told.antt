@@ -2,7 +2,7 @@
 use Rattle.std.specs.List.{AllByRecursion}
 use Rattle.std.proofs.lemmas.List.Elements.{recursion_from_All, All-from_recursion, All-same}
 use Rattle.nv_memory.specs.declared.entry.Entry.{Entry}
-use Rattle.nv_memory.specs.Board.{State, image_after, image_by}
+use Rattle.nv_memory.specs.Board.{State, image_by}
 use Rattle.std.proofs.Common.{All, append_assoc, take, length-append, ◌≡◌, ℕ, ◌+◌, ◌<◌, ◌≤◌, inl, inr, List, [], ◌∷◌, ◌++◌, length, refl, sym, ap, subst, ◌∙◌, arith, false, Some, None}
 use Rattle.std.specs.Prelude.{slice_get, slice_index}
 use Rattle.std.proofs.lemmas.Bool.{cases_lt, cases_Bool}
@@ -16,7 +16,7 @@ use Rattle.image_meaning.specs.Standing.{StandsFor}
 use Rattle.reference_run.specs.Reference.{Moment}
 use Rattle.cat_program.specs.declared.outs.LogEntry.{LogEntry}
 use Rattle.cat_program.specs.Checked.{Checked}
-use Rattle.timely_commits.specs.Past.{Past, committed_at, done_at, end_of}
+use Rattle.recovery.specs.Past.{Past, committed_at, done_at, end_of, image_at}
 use Rattle.timely_commits.proofs.InTime.{commits_in_time}
 use Rattle.cat_program.specs.declared.outs.LogEntry.TheVariants.{Ran}
 use Rattle.nv_memory.specs.declared.device.Device.{Device}
@@ -33,6 +33,7 @@ use Rattle.cn_scheduler.specs.Chunks.{Link, IsLawful, is_last, point_after, entr
 use Rattle.cn_scheduler.specs.Belongs.{BelongTogether, IsPlanOf}
 use Rattle.lawful_timeline.specs.Working.{IsSetUp, setting_of}
 use Rattle.lawful_timeline.specs.Claims.{Begins, EachPoint, IsAtWork, LawfulTimelinesHold}
+use Rattle.lawful_timeline.specs.Points.{PointsHold}
 use Rattle.calm_timeline.specs.Calm.{board_after}
 use Rattle.calm_timeline.specs.Claims.{IsServed}
 use Rattle.calm_timeline.specs.Numbers.{IsPlanned, AtEachPoint, DoneHasCome}
@@ -46,6 +47,10 @@ each_with : (P Q R : Point → Type 0) → ((pt : Point) → P pt → Q pt → R
 each_with P Q R both [] pt p q = both pt p q
 each_with P Q R both (c ∷ links) pt p q = (both pt p.0 q.0, λ on. each_with P Q R both links c.after (p.1 on) (q.1 on))
 
+to_each : (P : Point → Type 0) (links : List Link) (pt : Point) → EachPoint P pt links → AtEachPoint P pt links
+to_each P [] pt each = each
+to_each P (c ∷ links) pt each = (each.0, λ on. to_each P links c.after (each.1 on))
+
 some_more : (xs : List Link) (y : Link) (ys : List Link) → xs ++ y ∷ ys ≡ [] → ⊥
 some_more [] y ys is = cc
 some_more (x ∷ xs) y ys is = cc
@@ -57,16 +62,16 @@ goes_on plan d before chunk after pt lawful =
       | inr on ↦ on
     ]
 
-rest_lawful : (plan : Plan) (before : List Link) (chunk : Link) (after : List Link) (pt : Point) → IsLawful plan pt (before ++ chunk ∷ after) → IsLawful plan (point_after pt before) (chunk ∷ after)
+pub rest_lawful : (plan : Plan) (before : List Link) (chunk : Link) (after : List Link) (pt : Point) → IsLawful plan pt (before ++ chunk ∷ after) → IsLawful plan (point_after pt before) (chunk ∷ after)
 rest_lawful plan [] chunk after pt lawful = lawful
 rest_lawful plan (d ∷ before) chunk after pt lawful = rest_lawful plan before chunk after d.after lawful.2
 
-rest_each : (P : Point → Type 0) (plan : Plan) (before : List Link) (chunk : Link) (after : List Link) (pt : Point) → IsLawful plan pt (before ++ chunk ∷ after) → EachPoint P pt (before ++ chunk ∷ after) →
+pub rest_each : (P : Point → Type 0) (plan : Plan) (before : List Link) (chunk : Link) (after : List Link) (pt : Point) → IsLawful plan pt (before ++ chunk ∷ after) → EachPoint P pt (before ++ chunk ∷ after) →
     EachPoint P (point_after pt before) (chunk ∷ after)
 rest_each P plan [] chunk after pt lawful each = each
 rest_each P plan (d ∷ before) chunk after pt lawful each = rest_each P plan before chunk after d.after lawful.2 (each.1 (goes_on plan d before chunk after pt lawful))
 
-first_each : (P : Point → Type 0) (pt : Point) (links : List Link) → EachPoint P pt links → P pt
+pub first_each : (P : Point → Type 0) (pt : Point) (links : List Link) → EachPoint P pt links → P pt
 first_each P pt [] each = each
 first_each P pt (c ∷ links) each = each.0
 
@@ -80,7 +85,7 @@ none_in_front : (xs ys : List Link) → xs ++ ys ≡ [] → xs ≡ []
 none_in_front [] ys is = refl
 none_in_front (x ∷ xs) ys is = absurd (cc)
 
-front_lawful : (plan : Plan) (xs ys : List Link) (pt : Point) → IsLawful plan pt (xs ++ ys) → IsLawful plan pt xs
+pub front_lawful : (plan : Plan) (xs ys : List Link) (pt : Point) → IsLawful plan pt (xs ++ ys) → IsLawful plan pt xs
 front_lawful plan [] ys pt lawful = tt
 front_lawful plan (c ∷ xs) ys pt lawful = (lawful.0, (λ last. none_in_front xs ys (lawful.1 last)), front_lawful plan xs ys c.after lawful.2)
 
@@ -88,28 +93,20 @@ front_each : (P : Point → Type 0) (xs ys : List Link) (pt : Point) → AtEachP
 front_each P [] ys pt each = first_of P pt ys each
 front_each P (c ∷ xs) ys pt each = (each.0, λ on. front_each P xs ys c.after (each.1 on))
 
-point_on : (xs ys : List Link) (pt : Point) → point_after pt (xs ++ ys) ≡ point_after (point_after pt xs) ys
+pub point_on : (xs ys : List Link) (pt : Point) → point_after pt (xs ++ ys) ≡ point_after (point_after pt xs) ys
 point_on [] ys pt = refl
 point_on (c ∷ xs) ys pt = point_on xs ys c.after
 
-entries_on : (xs ys : List Link) → entries_of (xs ++ ys) ≡ entries_of xs ++ entries_of ys
+pub entries_on : (xs ys : List Link) → entries_of (xs ++ ys) ≡ entries_of xs ++ entries_of ys
 entries_on [] ys = refl
 entries_on (c ∷ xs) ys = ap (λ (es : List Entry). c.entries ++ es) (entries_on xs ys) ∙ sym (append_assoc c.entries (entries_of xs) (entries_of ys))
 
-image_on : (xs ys : List Entry) (image : List ℕ) → image_by (xs ++ ys) image ≡ image_by ys (image_by xs image)
-image_on [] ys image = refl
-image_on (e ∷ xs) ys image = image_on xs ys (image_after e.op image)
-
-all_back : (P : Entry → Type 0) (xs ys : List Entry) → AllByRecursion P (xs ++ ys) → AllByRecursion P ys
-all_back P [] ys all = all
-all_back P (x ∷ xs) ys all = all_back P xs ys all.1
-
-last_of : (xs : List Link) (c : Link) (pt : Point) → point_after pt (xs ++ c ∷ []) ≡ c.after
+pub last_of : (xs : List Link) (c : Link) (pt : Point) → point_after pt (xs ++ c ∷ []) ≡ c.after
 last_of [] c pt = refl
 last_of (d ∷ xs) c pt = last_of xs c d.after
 
 committed_is : (past : Past) (n : ℕ) → committed_at past n ≡ committed_slot past.layout (image_by (take n past.timeline) past.first)
-unfolding committed_at
+unfolding committed_at image_at
 committed_is past n = refl
 
 -- the entries of a moment are as many as the records that are committed
@@ -129,6 +126,7 @@ pub record LowerLaws : Type 0 where
   pub calm : CalmLaw
   pub ends : EntriesEnd
   pub hold : (program : Checked) (plan : Plan) → LawfulTimelinesHold program plan
+  pub points : (program : Checked) (plan : Plan) → PointsHold program plan
   pub counts : (lists : Lists) → AreSound lists → AreCounted lists
   pub go_on : (s : Setting) → OwnRunsGoOn s
   pub arrivals : (s : Setting) → OwnRunsHandleArrivals s
@@ -230,56 +228,61 @@ module _ (laws : LowerLaws) (program : Checked) (device : Device) (b : BoundsVal
       let chosen : has.1 ≡ version_for (setting_of program plan) event arrival = sym version.2 ∙ ap (λ (x : Arrival). version_for (setting_of program plan) event x) same in
       record {
         served = served;
-        moment = work.moment;
-        stands = work.saved served.saved;
-        place = has.0;
-        steps = has.2;
-        begun = has.3;
-        entry = subst (λ (v : ℕ). slice_get work.moment.entries has.0 ≡ Some (Ran event v has.2 has.3 k)) chosen has.4;
-        only = λ i v n t at. once.once i has.0 event k v n t has.1 has.2 has.3 at has.4;
-        in_time = by_then served has.0 (placed (work.saved served.saved) has.0 (Ran event has.1 has.2 has.3 k) has.4);
+        logged = record {
+          moment = work.moment;
+          stands = work.saved served.saved;
+          place = has.0;
+          steps = has.2;
+          begun = has.3;
+          entry = subst (λ (v : ℕ). slice_get work.moment.entries has.0 ≡ Some (Ran event v has.2 has.3 k)) chosen has.4;
+          only = λ i v n t at. once.once i has.0 event k v n t has.1 has.2 has.3 at has.4;
+          in_time = by_then served has.0 (placed (work.saved served.saved) has.0 (Ran event has.1 has.2 has.3 k) has.4);
+        };
       }
 
 split : (before xs : List Link) (job : Link) (after : List Link) → before ++ (xs ++ job ∷ after) ≡ before ++ xs ++ job ∷ [] ++ after
 split before xs job after =
     sym (append_assoc before xs (job ∷ after)) ∙ sym (append_assoc (before ++ xs) (job ∷ []) after)
 
+-- the chunks up to a job's, that one, and those behind it
+pub whole : (links before : List Link) (chunk : Link) (after : List Link) → links ≡ before ++ chunk ∷ after → {event k d : ℕ} → (served : IsServed (chunk ∷ after) event k d) →
+    links ≡ before ++ served.before ++ served.job ∷ [] ++ served.after
+whole links before chunk after is served = is ∙ ap (λ (ls : List Link). before ++ ls) served.is_one ∙ split before served.before served.job served.after
+
+-- an arrival is one of a declared event
+pub declared : (program : Checked) (plan : Plan) → IsPlanOf program plan → (event k : ℕ) (arrival : Arrival) → arrival_at plan.queue.arrivals event k ≡ Some arrival → event < length program.events
+declared program plan plan_is event k arrival at =
+    let events = plan_is.queue in
+    elim (cases_lt event (length plan.queue.arrivals.timings)) [
+      | inl less ↦ omega arith
+      | inr past ↦
+          let none = slice_get_past plan.queue.arrivals.timings event past in
+          let none' : arrival_at plan.queue.arrivals event k ≡ None = rw none refl in
+          absurd (cc)
+    ]
+
 pub timely : LowerLaws → TimelyLaw
-timely laws program device b plan origin first links planned set_up begins board lawful belong before after chunk row p q z is fits calm =
+timely laws program device b plan origin first links planned set_up begins few board lawful before after chunk row p q z is fits calm =
     let holds = (laws.hold program plan).holds first links set_up begins lawful in
+    let belong = to_each (BelongTogether program plan) links first ((laws.points program plan).belong first links set_up begins board.some_ticks few lawful) in
     let run : IsRun program device plan origin first links =
     record {
       lawful = lawful;
       board = board;
-      belong = belong;
+      belong = to_each (BelongTogether program plan) links first ((laws.points program plan).belong first links set_up begins board.some_ticks few lawful);
       done = each_with (IsAtWork program plan) (BelongTogether program plan) (DoneHasCome plan) (done_has_come laws program device b plan planned) links first holds.points belong;
     } in
     let meets = laws.calm program device b plan origin first links planned run before after chunk row p q z is fits calm in
     let its = subst (λ (ls : List Link). IsLawful plan first ls) is lawful in
-    let plan_is = (first_of (BelongTogether program plan) first links belong).plan_is in
     record {
       meets = meets;
       told = λ event k arrival at from first_time till.
-          told_by laws program device b plan planned (past_of plan first links) (point_after first before) (chunk ∷ after) event k (arrival.tick + slice_index plan.queue.deadlines event) arrival plan_is
+          told_by laws program device b plan planned (past_of plan first links) (point_after first before) (chunk ∷ after) event k (arrival.tick + slice_index plan.queue.deadlines event) arrival set_up.plan_is
           (λ served place committed.
-          subst (λ (ls : List Link). done_at (past_of plan first ls) place ≤ arrival.tick + slice_index plan.queue.deadlines event) (sym (whole served))
+          subst (λ (ls : List Link). done_at (past_of plan first ls) place ≤ arrival.tick + slice_index plan.queue.deadlines event) (sym (whole links before chunk after is served))
           (in_time laws program device b plan planned origin first (before ++ served.before) served.job served.after (arrival.tick + slice_index plan.queue.deadlines event) place set_up begins
-          (subst (λ (ls : List Link). IsRun program device plan origin first ls) (whole served) run) served.in_time served.some committed))
+          (subst (λ (ls : List Link). IsRun program device plan origin first ls) (whole links before chunk after is served) run) served.in_time served.some committed))
           (rest_lawful plan before chunk after first its)
           (rest_each (IsAtWork program plan) plan before chunk after first its (subst (λ (ls : List Link). EachPoint (IsAtWork program plan) first ls) is holds.points))
-          at (within plan_is event k arrival at) (meets.met event k arrival at from first_time till);
+          at (declared program plan set_up.plan_is event k arrival at) (meets.met event k arrival at from first_time till);
     }
-  where
-    whole : {event k d : ℕ} → (served : IsServed (chunk ∷ after) event k d) → links ≡ before ++ served.before ++ served.job ∷ [] ++ served.after
-    whole served = is ∙ ap (λ (ls : List Link). before ++ ls) served.is_one ∙ split before served.before served.job served.after
-
-    within : IsPlanOf program plan → (event k : ℕ) (arrival : Arrival) → arrival_at plan.queue.arrivals event k ≡ Some arrival → event < length program.events
-    within plan_is event k arrival at =
-        let events = plan_is.queue in
-        elim (cases_lt event (length plan.queue.arrivals.timings)) [
-          | inl less ↦ omega arith
-          | inr past ↦
-              let none = slice_get_past plan.queue.arrivals.timings event past in
-              let none' : arrival_at plan.queue.arrivals event k ≡ None = rw none refl in
-              absurd (cc)
-        ]

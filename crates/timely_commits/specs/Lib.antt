@@ -1,2 +1,2 @@
 pub mod Timely
-pub mod Past
+pub mod InTime

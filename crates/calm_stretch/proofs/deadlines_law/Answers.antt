@@ -7,5 +7,8 @@ returns c =
       energy = c.closing_law.ensures.energy;
       time = c.closing_law.ensures.time;
       least = c.points_law.ensures.least;
+      falls = c.blocking_law.ensures.falls;
+      chunk = c.blocking_law.ensures.chunk;
+      job = c.blocking_law.ensures.job;
       counts = c.arrivals_are_counted.ensures;
     })

@@ -11,7 +11,7 @@ use Rattle.cat_compile.proofs.Regions.{EventsLoop, lists_below_at, events_start,
 use Rattle.cat_compile.proofs.whole.emit_events.Goals as goal
 
 pub loop-event-init : goal.loop-event-init
-loop-event-init c = subst (λ l. EventsLoop c.args.program.now c.args.code.now.items c.args.code.now.items (entries_of l) 0) (sym c.new-all.ensures.items) (events_start c.args.program.now c.args.code.now.items c.requires.checked c.requires.tasks)
+loop-event-init c = subst (λ l. EventsLoop c.args.program.now c.args.code.now.items c.args.code.now.items (entries_of l) 0) (sym c.new-all.ensures.items) (events_start c.code_is_laid_out.ensures.sizes c.args.program.now c.args.code.now.items c.requires.checked c.requires.tasks)
 
 pub emit_event-requires-clause-blocks : goal.emit_event-requires-clause-blocks
 emit_event-requires-clause-blocks c =
@@ -21,7 +21,7 @@ emit_event-requires-clause-blocks c =
 pub loop-event-preserved : goal.loop-event-preserved
 loop-event-preserved c =
     let item = ap (λ l. slice_get l c.loop-event.event-index) (sym c.versions-events.ensures.versions) ∙ slice_get-get_or c.versions-events.result.now c.loop-event.event-index c.event-item.result c.loop-event-test.true ∙ ap Some (sym c.event-item.is) in
-    events_go c.args.program.now c.args.code.now.items c.loop-event.code.items (entries_of c.loop-event.all.items) c.loop-event.event-index c.event-item.result item c.loop-event.invariant
+    events_go c.args.program.now c.args.code.now.items c.loop-event.code.items (entries_of c.loop-event.all.items) c.loop-event.event-index c.event-item.result item c.loop-event.invariant c.code_is_laid_out.ensures.sizes
     c.emit_event.new.code.items c.in_ok-entries.entries.items (entries_of c.push.new.self.items)
     (c.in_ok-entries.ensures.code ∙ ap (λ l. c.loop-event.code.items ++ versions_code (length c.loop-event.code.items) (map (tree_of c.args.program.now.blocks) l)) c.as_slice.ensures)
     (c.in_ok-entries.ensures.entries ∙ ap (λ l. versions_entries (length c.loop-event.code.items) (map (tree_of c.args.program.now.blocks) l)) c.as_slice.ensures)

@@ -13,5 +13,5 @@ pub loop-t-preserved : goal.loop-t-preserved
 loop-t-preserved c =
     let item = ap (λ l. slice_get l c.loop-t.t) (sym c.bodies-tasks.ensures.bodies) ∙ slice_get-get_or c.bodies-tasks.result.now c.loop-t.t 0 c.loop-t-test.true in
     tasks_go c.args.program.now c.loop-t.code.items c.loop-t.entries.items c.loop-t.t (slice_index_or c.bodies-tasks.result.now c.loop-t.t 0)
-    item c.loop-t.invariant c.emit_task.new.code.items c.push.new.self.items c.in_ok-emit_task.ensures
+    item c.loop-t.invariant c.code_is_laid_out.ensures.sizes c.emit_task.new.code.items c.push.new.self.items c.in_ok-emit_task.ensures
     (c.in_ok-push.ensures.items ∙ ap (λ n. c.loop-t.entries.items ++ n ∷ []) (c.len.ensures ∙ c.loop-t.code.ok.0))

@@ -4,7 +4,7 @@ use Rattle.cat_eval.proofs.events.run_event.Goals as goal
 
 pub run_block-requires-clause-ready : goal.run_block-requires-clause-ready
 run_block-requires-clause-ready c =
-    version_ready c.args.program.now c.args.state.now c.args.outs.now c.args.event c.args.version c.version-block.result c.requires.fits c.requires.there c.version-block.ensures.version c.requires.room
+    version_ready c.args.program.now (c.parts_law.ensures c.args.program.now c.requires.fits.checked) c.args.state.now c.args.outs.now c.args.event c.args.version c.version-block.result c.requires.fits c.requires.there c.version-block.ensures.version c.requires.room
 
 pub returns-clause-fits : goal.returns-clause-fits
 returns-clause-fits c =

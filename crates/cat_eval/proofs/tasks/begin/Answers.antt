@@ -13,7 +13,7 @@ returns-clause-step c =
     let old = c.args.state.now in
     let frame = c.first.ensures ∙ ap first_frame c.body-block.ensures.body in
     let state = begun old c.lower.new.self c.set_running.new.self c.push_frame.new.self (lowered old.posts c.args.t) c.first.result (first_frame (slice_index p.tasks c.args.t)) c.lower.ensures c.set_running.ensures frame c.push_frame.ensures in
-    begins p old c.requires.fits c.requires.idle c.args.t c.push_frame.new.self c.requires.first state
+    begins p old c.requires.fits c.requires.idle c.blocks_law.ensures (c.parts_law.ensures p c.requires.fits.checked) c.args.t c.push_frame.new.self c.requires.first state
 
 pub returns-clause-fits : goal.returns-clause-fits
 returns-clause-fits c =
@@ -21,4 +21,4 @@ returns-clause-fits c =
     let old = c.args.state.now in
     let frame = c.first.ensures ∙ ap first_frame c.body-block.ensures.body in
     let state = begun old c.lower.new.self c.set_running.new.self c.push_frame.new.self (lowered old.posts c.args.t) c.first.result (first_frame (slice_index p.tasks c.args.t)) c.lower.ensures c.set_running.ensures frame c.push_frame.ensures in
-    steps_fit p old Quiet c.push_frame.new.self c.requires.fits (begins p old c.requires.fits c.requires.idle c.args.t c.push_frame.new.self c.requires.first state)
+    steps_fit p old Quiet c.push_frame.new.self c.requires.fits (begins p old c.requires.fits c.requires.idle c.blocks_law.ensures (c.parts_law.ensures p c.requires.fits.checked) c.args.t c.push_frame.new.self c.requires.first state)

@@ -21,7 +21,7 @@ push_frame-requires c = frame_room c.args.program.now c.args.frame c.args.state.
 pub push_frame-requires-in-Some : goal.push_frame-requires-in-Some
 push_frame-requires-in-Some c =
     let chosen = sym c.in-Some.is ∙ c.chosen_block-chosen.ensures ∙ ap (λ l. chosen_block c.args.test.now l c.args.first c.args.second) c.words.ensures in
-    let fits = branch_fits c.args.program.now c.args.state.now c.args.state.now c.args.frame c.requires.at c.args.test.now c.args.first c.args.second (Some c.in-Some.block) c.requires.here chosen in
+    let fits = branch_fits c.blocks_law.ensures c.args.program.now c.args.state.now c.args.state.now c.args.frame c.requires.at c.args.test.now c.args.first c.args.second (Some c.in-Some.block) c.requires.here chosen in
     omega (arith, frame_room c.args.program.now (first_frame c.in-Some.block) (next_frame c.args.frame ∷ c.args.state.now.frames) fits, ap (λ (s : StateValue). length s.frames) c.push_frame.ensures)
 
 pub returns-in-None : goal.returns-in-None
@@ -29,11 +29,11 @@ returns-in-None c =
     let chosen = sym c.in-None.is ∙ c.chosen_block-chosen.ensures ∙ ap (λ l. chosen_block c.args.test.now l c.args.first c.args.second) c.words.ensures in
     let old = c.args.state.now in
     let state = put_one old c.push_frame.new.self c.next.result (next_frame c.args.frame) c.push_frame.ensures c.next.ensures in
-    branch_is c.args.program.now old c.push_frame.new.self c.args.frame c.requires.at c.args.test.now c.args.first c.args.second None c.requires.here chosen state
+    branch_is c.blocks_law.ensures c.args.program.now old c.push_frame.new.self c.args.frame c.requires.at c.args.test.now c.args.first c.args.second None c.requires.here chosen state
 
 pub returns-in-Some : goal.returns-in-Some
 returns-in-Some c =
     let chosen = sym c.in-Some.is ∙ c.chosen_block-chosen.ensures ∙ ap (λ l. chosen_block c.args.test.now l c.args.first c.args.second) c.words.ensures in
     let old = c.args.state.now in
     let state = put_two old c.push_frame.new.self c.push_frame-in-Some.new.self c.next.result (next_frame c.args.frame) c.first.result (first_frame c.in-Some.block) c.push_frame.ensures c.next.ensures c.push_frame-in-Some.ensures c.first.ensures in
-    branch_is c.args.program.now old c.push_frame-in-Some.new.self c.args.frame c.requires.at c.args.test.now c.args.first c.args.second (Some c.in-Some.block) c.requires.here chosen state
+    branch_is c.blocks_law.ensures c.args.program.now old c.push_frame-in-Some.new.self c.args.frame c.requires.at c.args.test.now c.args.first c.args.second (Some c.in-Some.block) c.requires.here chosen state

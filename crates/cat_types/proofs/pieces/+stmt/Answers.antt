@@ -2,7 +2,6 @@ use Rattle.std.proofs.Common.{ap}
 use Rattle.std.proofs.lemmas.Result.{on_ok_weaker}
 use Rattle.cat_conditions.specs.Plain.{block_of}
 use Rattle.cat_conditions.specs.Pieces.{block_pieces}
-use Rattle.cat_conditions.proofs.PlainLaws.{action_set_at, action_if, action_loop}
 use Rattle.cat_types.proofs.Adding.{adds_none, adds_then, continues_on, item_next}
 use Rattle.cat_types.proofs.pieces.+stmt.Goals as goal
 
@@ -13,20 +12,20 @@ add_block-loop-statement-preserved t c = continues_on c.loop-statement.invariant
 
 pub add_inside-returns-in_ok-add_expr-in-SetAt : goal.add_inside-returns-in_ok-add_expr-in-SetAt
 add_inside-returns-in_ok-add_expr-in-SetAt t c =
-    rw (c.in-SetAt.is, action_set_at) (on_ok_weaker _ (adds_then c.in_ok-add_expr-in-SetAt.ensures) c.add_expr-in-SetAt.ensures)
+    rw (c.in-SetAt.is, c.plain_law.ensures.actions.set_at) (on_ok_weaker _ (adds_then c.in_ok-add_expr-in-SetAt.ensures) c.add_expr-in-SetAt.ensures)
 
 pub add_inside-returns-in_ok-add_expr-in-While : goal.add_inside-returns-in_ok-add_expr-in-While
 add_inside-returns-in_ok-add_expr-in-While t c =
-    rw (c.in-While.is, action_loop, ← c.as_slice-in-While.ensures)
+    rw (c.in-While.is, c.plain_law.ensures.actions.loop, ← c.as_slice-in-While.ensures)
     (on_ok_weaker _ (adds_then c.in_ok-add_expr-in-While.ensures) c.add_block-in-While.ensures)
 
 pub add_inside-returns-in-Some : goal.add_inside-returns-in-Some
 add_inside-returns-in-Some t c =
-    rw (c.in-If.is, action_if, ← c.as_slice.ensures, c.in-Some.is, ← c.as_slice-in-Some.ensures)
+    rw (c.in-If.is, c.plain_law.ensures.actions.branch, ← c.as_slice.ensures, c.in-Some.is, ← c.as_slice-in-Some.ensures)
     (on_ok_weaker _ (λ more. adds_then c.in_ok-add_expr-in-If.ensures (adds_then c.in_ok-add_block-in-If.ensures more))
     c.add_block-in-Some.ensures)
 
 pub add_inside-returns-in-None : goal.add_inside-returns-in-None
 add_inside-returns-in-None t c =
-    rw (c.in-If.is, action_if, ← c.as_slice.ensures, c.in-None.is)
+    rw (c.in-If.is, c.plain_law.ensures.actions.branch, ← c.as_slice.ensures, c.in-None.is)
     (adds_then c.in_ok-add_expr-in-If.ensures (adds_then c.in_ok-add_block-in-If.ensures (adds_none _)))

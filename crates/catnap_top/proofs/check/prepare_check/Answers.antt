@@ -5,26 +5,26 @@ use Rattle.catnap_top.specs.Look.{goes}
 use Rattle.catnap_top.proofs.Looks.{stops_first, stops_next, passes_on}
 use Rattle.catnap_top.proofs.check.prepare_check.Goals as goal
 
-pub returns-in_err-program : goal.returns-in_err-program
-returns-in_err-program c =
+pub returns-in_err-program-clause-looks : goal.returns-in_err-program-clause-looks
+returns-in_err-program-clause-looks c =
     passes_on reply_answer (checking c.args.source.now c.args.profile.now) c.from_residual.result c.in_err-program.field-0.0 c.from_residual.ensures.1
     (stops_first _ _ c.in_err-program.field-0.0 c.in_err-program.ensures)
 
-pub returns-in_err-device : goal.returns-in_err-device
-returns-in_err-device c =
+pub returns-in_err-device-clause-looks : goal.returns-in_err-device-clause-looks
+returns-in_err-device-clause-looks c =
     passes_on reply_answer (checking c.args.source.now c.args.profile.now) c.from_residual-in_err-device.result c.in_err-device.field-0.0 c.from_residual-in_err-device.ensures.1
     (stops_next _ _ c.in_ok-program.program c.in_err-device.field-0.0 c.in_ok-program.ensures
     (stops_first _ _ c.in_err-device.field-0.0 c.in_err-device.ensures))
 
-pub returns-in_err-chosen : goal.returns-in_err-chosen
-returns-in_err-chosen c =
+pub returns-in_err-chosen-clause-looks : goal.returns-in_err-chosen-clause-looks
+returns-in_err-chosen-clause-looks c =
     passes_on reply_answer (checking c.args.source.now c.args.profile.now) c.from_residual-in_err-chosen.result c.in_err-chosen.field-0.0 c.from_residual-in_err-chosen.ensures.1
     (stops_next _ _ c.in_ok-program.program c.in_err-chosen.field-0.0 c.in_ok-program.ensures
     (stops_next _ _ c.in_ok-device.device c.in_err-chosen.field-0.0 c.in_ok-device.ensures
     (stops_first _ _ c.in_err-chosen.field-0.0 c.in_err-chosen.ensures.versions)))
 
-pub returns : goal.returns
-returns c =
+pub returns-clause-looks : goal.returns-clause-looks
+returns-clause-looks c =
     goes c.in_ok-program.program c.in_ok-program.ensures
     (goes c.in_ok-device.device c.in_ok-device.ensures
     (goes c.in_ok-chosen.chosen c.in_ok-chosen.ensures.versions refl))

@@ -1,5 +1,4 @@
 use Rattle.std.proofs.Common.{refl, subst, sym}
-use Rattle.degradation.specs.Choice.{supply_of}
 use Rattle.catnap_top.specs.Look.{Stops}
 use Rattle.catnap_top.specs.Replay.{living}
 use Rattle.catnap_top.specs.Served.{stop_of_replay}

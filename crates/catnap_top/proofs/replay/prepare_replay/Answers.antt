@@ -1,4 +1,4 @@
-use Rattle.catnap_top.specs.Replay.{living, replaying}
+use Rattle.catnap_top.specs.Replay.{replaying}
 use Rattle.catnap_top.specs.Reply.{reply_answer}
 use Rattle.catnap_top.specs.Look.{goes}
 use Rattle.catnap_top.proofs.Looks.{stops_first, stops_next, passes_on}

@@ -5,7 +5,6 @@ use Rattle.catnap_top.specs.Look.{LooksAs}
 use Rattle.catnap_top.specs.Reply.{reply_answer}
 use Rattle.catnap_top.specs.Run.{running}
 use Rattle.catnap_top.specs.Listed.{listing}
-use Rattle.catnap_top.specs.Check.{checking}
 use Rattle.catnap_top.proofs.Preparing.{contents, file_at, looks_as_form}
 use Rattle.catnap_top.proofs.reply.prepare.Goals as goal
 
@@ -15,7 +14,7 @@ returns-in-Run-clause-looks c =
     let count : length files ≡ 1 = c.requires ∙ ap file_count c.in-Run.is in
     looks_as_form c.args.form (Run c.in-Run.steps) (contents files) c.prepare_run.result c.in-Run.is
     (subst (λ source. LooksAs reply_answer (running c.in-Run.steps source) c.prepare_run.result)
-    (file_at files 0 c.index-files-0.result c.as_slice.result.now (omega arith) c.as_slice.ensures.value c.index-files-0.is) c.prepare_run.ensures)
+    (file_at files 0 c.index-files-0.result c.as_slice.result.now (omega arith) c.as_slice.ensures.value c.index-files-0.is) c.prepare_run.ensures.looks)
 
 pub returns-in-List-clause-looks : goal.returns-in-List-clause-looks
 returns-in-List-clause-looks c =
@@ -24,7 +23,7 @@ returns-in-List-clause-looks c =
     looks_as_form c.args.form Listing (contents files) c.prepare_list.result c.in-List.is
     (subst (λ source. LooksAs reply_answer (listing source) c.prepare_list.result)
     (file_at files 0 c.index-files-0-in-List.result c.as_slice-in-List.result.now (omega arith) c.as_slice-in-List.ensures.value c.index-files-0-in-List.is)
-    c.prepare_list.ensures)
+    c.prepare_list.ensures.looks)
 
 pub returns-in-Check-clause-looks : goal.returns-in-Check-clause-looks
 returns-in-Check-clause-looks c =
@@ -33,4 +32,16 @@ returns-in-Check-clause-looks c =
     let source = file_at files 0 c.index-files-0-in-Check.result c.as_slice-in-Check.result.now (omega arith) c.as_slice-in-Check.ensures.value c.index-files-0-in-Check.is in
     let profile = file_at files 1 c.index-files-1.result c.as_slice-in-Check-2.result.now (omega arith) c.as_slice-in-Check-2.ensures.value c.index-files-1.is in
     looks_as_form c.args.form Check (contents files) c.prepare_check.result c.in-Check.is
-    (rw (source, profile) at c.prepare_check.ensures)
+    (rw (source, profile) at c.prepare_check.ensures.looks)
+
+pub returns-in-Replay-clause-looks : goal.returns-in-Replay-clause-looks
+returns-in-Replay-clause-looks c =
+    let files = c.args.files.now in
+    let count : length files ≡ 5 = c.requires ∙ ap file_count c.in-Replay.is in
+    let source = file_at files 0 c.index-files-0-in-Replay.result c.as_slice-in-Replay.result.now (omega arith) c.as_slice-in-Replay.ensures.value c.index-files-0-in-Replay.is in
+    let profile = file_at files 1 c.index-files-1-in-Replay.result c.as_slice-in-Replay-2.result.now (omega arith) c.as_slice-in-Replay-2.ensures.value c.index-files-1-in-Replay.is in
+    let trace = file_at files 2 c.index-files-2.result c.as_slice-in-Replay-3.result.now (omega arith) c.as_slice-in-Replay-3.ensures.value c.index-files-2.is in
+    let arrivals = file_at files 3 c.index-files-3.result c.as_slice-in-Replay-4.result.now (omega arith) c.as_slice-in-Replay-4.ensures.value c.index-files-3.is in
+    let failures = file_at files 4 c.index-files-4.result c.as_slice-in-Replay-5.result.now (omega arith) c.as_slice-in-Replay-5.ensures.value c.index-files-4.is in
+    looks_as_form c.args.form Replay (contents files) c.prepare_replay.result c.in-Replay.is
+    (rw (source, profile, trace, arrivals, failures) at c.prepare_replay.ensures.looks)

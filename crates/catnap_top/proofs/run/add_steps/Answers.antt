@@ -1,7 +1,5 @@
-use Rattle.std.proofs.Common.{◌∙◌, sym, ap, arith, refl}
-use Rattle.std.proofs.lemmas.List.{append-nil}
-use Rattle.cn_base.specs.PageSums.{held_whole, held_adds}
-use Rattle.cn_base.specs.PageWords.{held_in}
+use Rattle.std.proofs.Common.{◌∙◌, sym, arith}
+use Rattle.cn_base.specs.PageSums.{held_adds}
 use Rattle.cat_program.specs.Checked.{body_at}
 use Rattle.cat_eval.specs.Cursor.{state_of}
 use Rattle.catnap_top.specs.Run.{answers}

@@ -1,5 +1,5 @@
 use Rattle.std.proofs.Common.{ap, rules}
-use Rattle.cn_base.specs.PageSums.{page_closes, page_cut}
+use Rattle.cn_base.specs.PageSums.{page_closes}
 use Rattle.cn_base.specs.PageWords.{held_in}
 use Rattle.catnap_top.proofs.run.write_run.Goals as goal
 

@@ -1,4 +1,3 @@
-use Rattle.catnap_top.proofs.Arriving.{as_many}
 use Rattle.std.proofs.Common.{refl}
 use Rattle.catnap_top.specs.Look.{fits, fails}
 use Rattle.catnap_top.proofs.tables.arrivals_of.Goals as goal
@@ -12,4 +11,4 @@ returns-in-Err-BadArrivals-clause-looks c =
     fails (c.in-Err-BadArrivals.row, c.in-Err-BadArrivals.kind) fault refl
 
 pub returns-in-Ok-clause-events : goal.returns-in-Ok-clause-events
-returns-in-Ok-clause-events c = as_many c.args.program.now c.args.trace.now c.args.bytes.now c.in-Ok.arrivals c.bodies-checked.ensures.checked c.in-Ok.ensures.ok
+returns-in-Ok-clause-events c = c.told_arrivals_are_sound.ensures.events c.args.program.now c.args.trace.now c.args.bytes.now c.in-Ok.arrivals c.bodies-checked.ensures.checked c.in-Ok.ensures.ok

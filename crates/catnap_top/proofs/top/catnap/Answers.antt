@@ -1,4 +1,5 @@
 use Rattle.catnap_top.proofs.Causes.{asked, causes, complete}
+use Rattle.catnap_top.proofs.HeadlineAnswer.{has_headline}
 use Rattle.catnap_top.proofs.top.catnap.Goals as goal
 
 pub returns : goal.returns
@@ -8,5 +9,6 @@ returns g c =
       asked = asked _ _ _ _ _ c.respond.ensures.answer;
       causes = causes _ _ _ _ _ c.respond.ensures.answer;
       complete = complete _ _ _ _ _ c.respond.ensures.answer;
+      headline = has_headline c.replays_show_runs.ensures _ _ _ _ _ c.respond.ensures.answer;
       files = c.respond.ensures.files;
     }

@@ -1,8 +1,9 @@
 use Rattle.std.proofs.Common.{refl, length}
 use Rattle.cn_base.specs.PageSums.{adds_on}
 use Rattle.cn_base.specs.PageWords.{held_in}
-use Rattle.cn_report.specs.Report.{in_turn, event_line, numbers_line}
-use Rattle.cn_report.proofs.Lines.{cut_behind_held}
+use Rattle.cn_base.specs.Texts.{in_turn}
+use Rattle.cn_report.specs.Report.{event_line, numbers_line}
+use Rattle.cn_base.specs.TextSums.{cut_behind_held}
 use Rattle.cn_report.proofs.chosen.add_chosen.Goals as goal
 
 pub returns-in-Ok-clause-text : goal.returns-in-Ok-clause-text

@@ -1,7 +1,8 @@
 use Rattle.std.proofs.Common.{◌≡◌, ◌++◌}
 use Rattle.cn_base.specs.Pages.{IsHeld}
 use Rattle.cn_base.specs.PageWords.{held_in, sink_in, sink_name}
-use Rattle.cn_report.specs.Report.{in_turn, event_line}
+use Rattle.cn_base.specs.Texts.{in_turn}
+use Rattle.cn_report.specs.Report.{event_line}
 use Rattle.cn_report.proofs.chosen.add_versions.Given as goal
 
 abbrev pub invariant-loop-e : goal.invariant-loop-e

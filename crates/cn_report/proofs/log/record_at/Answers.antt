@@ -1,5 +1,5 @@
 use Rattle.std.proofs.Common.{arith}
-use Rattle.cn_report.specs.Past.{past_of, entry_in}
+use Rattle.recovery.specs.Past.{past_of, entry_in}
 use Rattle.cn_report.proofs.Moments.{sound-last}
 use Rattle.cn_report.proofs.Records.{few, found_is, image-long, none-first, some_is}
 use Rattle.cn_report.proofs.log.record_at.Goals as goal

@@ -2,7 +2,7 @@ use Rattle.std.proofs.Common.{ℕ, ◌<◌, ◌≤◌, ap, arith, ◌∙◌, ref
 use Rattle.std.specs.Prelude.{count_by}
 use Rattle.std.specs.List.{range_with_len}
 use Rattle.cn_report.specs.Counts.{is_out, is_ran, is_met}
-use Rattle.cn_report.specs.Past.{past_of, committed_at, entry_in, done_at}
+use Rattle.recovery.specs.Past.{past_of, committed_at, entry_in, done_at}
 use Rattle.cn_report.proofs.Counting.{at_most_one, counted_more, counted_places}
 use Rattle.cn_report.proofs.Moments.{starts}
 use Rattle.cn_report.proofs.tallying.count_log.Goals as goal

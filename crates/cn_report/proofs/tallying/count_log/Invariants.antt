@@ -2,7 +2,7 @@ use Rattle.std.proofs.Common.{◌≡◌, ◌≤◌, take}
 use Rattle.std.specs.Prelude.{count_by}
 use Rattle.std.specs.List.{range_with_len}
 use Rattle.cn_report.specs.Counts.{is_out, is_ran, is_met}
-use Rattle.cn_report.specs.Past.{past_of, entry_in, done_at}
+use Rattle.recovery.specs.Past.{past_of, entry_in, done_at}
 use Rattle.cn_report.specs.Passed.{HasPassed, IsBefore}
 use Rattle.cn_report.proofs.tallying.count_log.Given as goal
 

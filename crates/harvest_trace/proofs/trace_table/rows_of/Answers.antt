@@ -1,6 +1,5 @@
 use Rattle.std.proofs.Common.{◌≡◌, ◌∙◌, ◌<◌, ◌≤◌, ◌+◌, Ok, sym, ap, true, arith, rules, refl}
 use Rattle.std.specs.Result.{is_ok}
-use Rattle.cn_tables.proofs.TableRows.{read_rows-bad, read_rows-end, read_rows-more}
 use Rattle.cn_base.specs.declared.TheConstants.{MOST_TICKS}
 use Rattle.harvest_trace.specs.Timeline.{life_of}
 use Rattle.harvest_trace.specs.TraceTable.{trace_step, with_row}
@@ -14,13 +13,13 @@ rows-init c = rw (c.new-kept.ensures.items, c.new-ends.ensures.items) (record { 
 pub returns-then-not-found-clause-ok : goal.returns-then-not-found-clause-ok
 returns-then-not-found-clause-ok c =
     let none = c.in-Ok.ensures.end c.if-not-found.true in
-    c.rows.invariant.going ∙ read_rows-end trace_step c.rows.number c.rows.kept.items c.rows.rows.left none ∙ ap Ok (sym c.of.ensures)
+    c.rows.invariant.going ∙ c.rows_are_read.ensures.end trace_step c.rows.number c.rows.kept.items c.rows.rows.left none ∙ ap Ok (sym c.of.ensures)
 
 pub returns-in-Err-clause-fault : goal.returns-in-Err-clause-fault
 returns-in-Err-clause-fault c =
     let more = c.in-Ok.ensures.row c.if-not-found.false in
     let bad = ap (with_row c.rows.kept.items) (sym c.in-Err.ensures.value) in
-    c.rows.invariant.going ∙ read_rows-bad trace_step c.rows.number c.rows.kept.items c.in-Err.kind c.rows.rows.left c.next_row.new.self.current c.next_row.new.self.left more bad
+    c.rows.invariant.going ∙ c.rows_are_read.ensures.bad trace_step c.rows.number c.rows.kept.items c.in-Err.kind c.rows.rows.left c.next_row.new.self.current c.next_row.new.self.left more bad
 
 pub returns-then-life-gt-MOST_TICKS-clause-fault : goal.returns-then-life-gt-MOST_TICKS-clause-fault
 returns-then-life-gt-MOST_TICKS-clause-fault c =
@@ -28,7 +27,7 @@ returns-then-life-gt-MOST_TICKS-clause-fault c =
     let row = c.in-Ok-row_of.row in
     let over : MOST_TICKS < life_of c.rows.kept.items + row.ticks = omega (arith, c.rows.invariant.timeline.life_is) in
     let bad = ap (with_row c.rows.kept.items) (sym c.in-Ok-row_of.ensures.value) ∙ with_row-over c.rows.kept.items row over in
-    c.rows.invariant.going ∙ read_rows-bad trace_step c.rows.number c.rows.kept.items _ c.rows.rows.left c.next_row.new.self.current c.next_row.new.self.left more bad
+    c.rows.invariant.going ∙ c.rows_are_read.ensures.bad trace_step c.rows.number c.rows.kept.items _ c.rows.rows.left c.next_row.new.self.current c.next_row.new.self.left more bad
 
 pub rows-preserved : goal.rows-preserved
 rows-preserved c =
@@ -41,7 +40,7 @@ rows-preserved c =
     let items = rw pushed at c.push.ensures.items in
     let ends = rw ended at c.push-else-is_err.ensures.items in
     rw (items, ends) (record {
-      going = c.rows.invariant.going ∙ read_rows-more trace_step c.rows.number c.rows.kept.items _ c.rows.rows.left c.next_row.new.self.current c.next_row.new.self.left more next;
+      going = c.rows.invariant.going ∙ c.rows_are_read.ensures.more trace_step c.rows.number c.rows.kept.items _ c.rows.rows.left c.next_row.new.self.current c.next_row.new.self.left more next;
       numbered = omega (arith, c.rows.invariant.numbered, c.in-Ok-row_of.ensures.in_range.some_ticks);
       timeline = IsTimeline-push c.rows.kept.items c.rows.ends.items c.rows.life row c.rows.invariant.timeline c.in-Ok-row_of.ensures.in_range (omega arith);
     })

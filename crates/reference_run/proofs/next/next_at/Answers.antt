@@ -9,6 +9,6 @@ pub returns : goal.returns
 returns c =
     let lists = c.args.arrivals.now in
     let there : arrival_at lists c.args.event (slice_index c.args.done.now c.args.event) ≡ Some c.in-Some.arrival = sym c.arrival.ensures ∙ c.in-Some.is in
-    next_is lists (deadlines_of c.args.program.now) (slice_index c.args.done.now) c.args.now c.args.event (c.from.result + c.from-2.result) c.in-Some.arrival c.are_sound.ensures.sound.spaced there c.if-now-arrival.false
+    next_is lists (deadlines_of c.args.program.now) (slice_index c.args.done.now) c.args.now c.args.event (c.from.result + c.from-2.result) c.in-Some.arrival c.are_sound.ensures.sound there c.if-now-arrival.false
     (omega (arith, c.from.ensures, c.from-2.ensures, c.deadline.ensures))
     (λ other below. c.others.invariant other (omega (arith, below, c.requires.each, c.events-other-end.ensures.count, c.others-test.false)))

@@ -21,13 +21,13 @@ pub handle-requires-clause-there : goal.handle-requires-clause-there
 handle-requires-clause-there c =
     let s = setting_of c.args.program.now c.args.versions.now c.args.arrivals.now in
     let d : Item = record { steps = 0; event = 0; version = 0; start = 0 } in
-    version_there s c.args.run.now.start (slice_index c.args.run.now.done.items) (get_or c.args.items.now c.args.i d) c.in-Some.arrival c.requires.belong c.in-Some.ensures
+    version_there s c.are_sound.ensures.sound.known c.args.run.now.start (slice_index c.args.run.now.done.items) (get_or c.args.items.now c.args.i d) c.in-Some.arrival c.requires.belong c.in-Some.ensures
 
 pub handle-requires-clause-known : goal.handle-requires-clause-known
 handle-requires-clause-known c =
     let s = setting_of c.args.program.now c.args.versions.now c.args.arrivals.now in
     let d : Item = record { steps = 0; event = 0; version = 0; start = 0 } in
-    let within = event_known s c.args.run.now.start (slice_index c.args.run.now.done.items) (get_or c.args.items.now c.args.i d) c.in-Some.arrival c.requires.belong c.in-Some.ensures in
+    let within = event_known s c.are_sound.ensures.sound.known c.args.run.now.start (slice_index c.args.run.now.done.items) (get_or c.args.items.now c.args.i d) c.in-Some.arrival c.requires.belong c.in-Some.ensures in
     let went = c.in_ok-advance.ensures.all c.if-not-branch.false in
     rw went.beside.done (omega (arith, within, c.requires.at.each))
 
@@ -35,5 +35,5 @@ pub returns-clause-went : goal.returns-clause-went
 returns-clause-went c = λ _.
     let s = setting_of c.args.program.now c.args.versions.now c.args.arrivals.now in
     let d : Item = record { steps = 0; event = 0; version = 0; start = 0 } in
-    taken s c.args.items.now c.args.i c.args.run.now c.advance.new.run c.handle.new.run (get_or c.args.items.now c.args.i d) c.in-Some.arrival c.requires.belong c.requires.at
+    taken s c.are_sound.ensures.sound.known c.args.items.now c.args.i c.args.run.now c.advance.new.run c.handle.new.run (get_or c.args.items.now c.args.i d) c.in-Some.arrival c.requires.belong c.requires.at
     (slice_get-get_or c.args.items.now c.args.i d c.requires.more) c.in-Some.ensures (c.in_ok-advance.ensures.all c.if-not-branch.false) c.in_ok-handle.ensures

@@ -9,5 +9,5 @@ pub stored_after-stored-requires-clause-within : goal.stored_after-stored-requir
 stored_after-stored-requires-clause-within c =
     let b = c.args.self.now in
     let ticks = ticks_of (class_ticks b.origin.device) c.args.op in
-    let few : c.fate-fate.result.ticks ≤ ticks = subst (λ (f : Fate). f.ticks ≤ ticks) (sym c.fate-fate.ensures) (fate_bounded b.origin b.tick b.stored c.args.op).no_more_ticks in
+    let few : c.fate-fate.result.ticks ≤ ticks = subst (λ (f : Fate). f.ticks ≤ ticks) (sym c.fate-fate.ensures) (fate_bounded c.operations_are_bounded.ensures b.origin b.tick b.stored c.args.op).no_more_ticks in
     omega (arith, few, c.requires.fits)

@@ -16,7 +16,7 @@ invariant_of-result c =
     let now_is = first_is o c.args.image.items _ c.args.tick c.args.stored image_is es_is c.of.ensures.tick c.of.ensures.stored in
     let small : length o.image < 4294967296 = subst (λ (l : List ℕ). length l < 4294967296) (sym image_is) c.requires.image in
     record {
-      sound = subst (λ (t : State). IsSound (model_start o) t) now_is (first_sound o small c.of.ensures.bytes);
+      sound = subst (λ (t : State). IsSound (model_start o) t) now_is (first_sound c.operations_are_bounded.ensures o small c.of.ensures.bytes);
       reached = subst (λ (t : State). IsReached o t) now_is (first_reached o);
       ahead = subst (λ (x : Outlook). IsOutlook o c.args.tick x) (sym c.none.ensures) (none_outlook o c.args.tick);
       cap = c.in_ok-timeline.ensures.cap ∙ ap (λ (d : Device). d.cap) (sym c.of.ensures.device);

@@ -22,11 +22,11 @@ invariant_of-self c =
     let is = rest_is o b.image.items (entries_of b.timeline) b.tick b.stored b.losses b.on n h c.requires.some begun fits (λ t from until. b.ahead.harvest t from (omega (arith, c.requires.covered))) in
     let entries_are = c.push_sleeps.ensures.entries ∙ ap (λ (cap : ℕ). entries_of b.timeline ++ sleeps cap b.tick b.stored h n) b.cap in
     let now_is = ap (λ (es : List Entry). model_state o b.image.items es (b.tick + n) c.refilled-self.result b.losses false) entries_are
-    ∙ ap (λ (x : ℕ). model_state o b.image.items (entries_of b.timeline ++ sleeps o.device.cap b.tick b.stored h n) (b.tick + n) x b.losses false) c.refilled-self.ensures
+    ∙ ap (λ (x : ℕ). model_state o b.image.items (entries_of b.timeline ++ sleeps o.device.cap b.tick b.stored h n) (b.tick + n) x b.losses false) c.refilled-self.ensures.at_once
     ∙ is in
     record {
-      sound = subst (λ (t : State). IsSound (model_start o) t) (sym now_is) (slept_sound o n (state_of b) b.sound fits);
-      reached = subst (λ (t : State). IsReached o t) (sym now_is) (slept_reached o n (state_of b) b.reached fits);
+      sound = subst (λ (t : State). IsSound (model_start o) t) (sym now_is) (slept_sound c.boards_stay_sound.ensures o n (state_of b) b.sound fits);
+      reached = subst (λ (t : State). IsReached o t) (sym now_is) (slept_reached c.operations_are_bounded.ensures o n (state_of b) b.reached fits);
       ahead = later o b.tick (b.tick + n) b.outlook (omega arith) b.ahead;
       cap = search rules;
       room = search rules;
@@ -43,5 +43,5 @@ returns-clause-state c =
     let is = rest_is o b.image.items (entries_of b.timeline) b.tick b.stored b.losses b.on n h c.requires.some begun fits (λ t from until. b.ahead.harvest t from (omega (arith, c.requires.covered))) in
     let entries_are = c.push_sleeps.ensures.entries ∙ ap (λ (cap : ℕ). entries_of b.timeline ++ sleeps cap b.tick b.stored h n) b.cap in
     ap (λ (es : List Entry). model_state o b.image.items es (b.tick + n) c.refilled-self.result b.losses false) entries_are
-    ∙ ap (λ (x : ℕ). model_state o b.image.items (entries_of b.timeline ++ sleeps o.device.cap b.tick b.stored h n) (b.tick + n) x b.losses false) c.refilled-self.ensures
+    ∙ ap (λ (x : ℕ). model_state o b.image.items (entries_of b.timeline ++ sleeps o.device.cap b.tick b.stored h n) (b.tick + n) x b.losses false) c.refilled-self.ensures.at_once
     ∙ is

@@ -14,12 +14,12 @@ use Rattle.board_core.proofs.model_board.ModelBoard.settle.Goals as goal
 pub put-requires : goal.put-requires
 put-requires c =
     let b = c.args.self.now in
-    subst (λ (op : Op). IsIn op b.image.items) (sym c.left_by-op.ensures) (IsIn-left_by c.args.fate.torn c.args.op b.image.items c.requires.within)
+    subst (λ (op : Op). IsIn op b.image.items) (sym c.left_by-op.ensures) (IsIn-left_by c.operations_are_bounded.ensures c.args.fate.torn c.args.op b.image.items c.requires.within)
 
 pub overflow_add-self : goal.overflow_add-self
 overflow_add-self c =
     let b = c.args.self.now in
-    let bounded = fate_bounded b.origin b.tick b.stored c.args.op in
+    let bounded = fate_bounded c.operations_are_bounded.ensures b.origin b.tick b.stored c.args.op in
     let few : c.args.fate.ticks ≤ ticks_of (class_ticks b.origin.device) c.args.op = subst (λ (f : Fate). f.ticks ≤ ticks_of (class_ticks b.origin.device) c.args.op) (sym c.requires.fate) bounded.no_more_ticks in
     omega (arith, few, c.requires.fits, b.origin.life_in_range)
 
@@ -35,8 +35,8 @@ invariant_of-self c =
     let bytes = subst (λ (image : List ℕ). (k : ℕ) → get_or image k 0 < 256) image_is c.put.ensures.bytes in
     record {
       sound = subst (λ (t : State). IsSound (model_start o) t) (sym now_is)
-          (acts_sound o b.image.items (entries_of b.timeline) b.tick b.stored b.losses b.on c.args.op b.sound c.requires.within c.requires.fits bytes);
-      reached = subst (λ (t : State). IsReached o t) (sym now_is) (reached_after o (state_of b) c.args.op b.reached c.requires.fits);
+          (acts_sound c.operations_are_bounded.ensures o b.image.items (entries_of b.timeline) b.tick b.stored b.losses b.on c.args.op c.boards_stay_sound.ensures b.sound c.requires.within c.requires.fits bytes);
+      reached = subst (λ (t : State). IsReached o t) (sym now_is) (reached_after c.operations_are_bounded.ensures o (state_of b) c.args.op b.reached c.requires.fits);
       ahead = later o b.tick (b.tick + c.args.fate.ticks) b.outlook (omega arith) b.ahead;
       cap = search rules;
       room = search rules;

@@ -23,6 +23,5 @@ pub returns-clause-stored : goal.returns-clause-stored
 returns-clause-stored c =
     let o = c.args.self.now in
     let outlook = c.args.outlook.now in
-    let left : c.args.stored - (c.actual.result + outlook.extra) ≤ o.device.cap = omega (arith, c.requires.in_cap) in
-    let is = stored_foreseen o c.args.tick (c.args.stored - (c.actual.result + outlook.extra)) c.ticks-ticks.result outlook c.requires.outlook left (omega (arith, c.if-outlook-end.false)) in
-    omega (arith, is, c.min.ensures)
+    let is = stored_foreseen o c.args.tick (c.args.stored - (c.actual.result + outlook.extra)) c.ticks-ticks.result outlook c.requires.outlook (omega (arith, c.if-outlook-end.false)) in
+    c.refilled-left.ensures.value ∙ sym is

@@ -28,16 +28,16 @@ rows-preserved c =
     let alike = λ (t : ℕ) (low : from ≤ t) (high : t < from + n).
     (let before : t < c.until.result = omega (arith, c.min-until.ensures, until_is) in
     harvest_at-alike o.trace t from (c.until.ensures.alike t low before) ∙ sym c.harvest.ensures.value) in
-    let here = filled-alike o.trace cap c.rows.stored from n c.harvest.result c.rows.invariant.in_cap alike in
+    let here = filled-alike o.trace cap c.rows.stored from n c.harvest.result alike in
     let all : harvests o.trace start (until - start) ≡ harvests o.trace start (from - start) ++ harvests o.trace from n =
     ap (λ (k : ℕ). harvests o.trace start (k - start)) until_is ∙ harvests-since o.trace start from n c.rows.invariant.begun in
     record {
       begun = omega (arith, later, c.rows.invariant.begun);
       within = omega (arith, c.min-until.ensures);
-      so_far = c.refilled-stored.ensures
+      so_far = c.refilled-stored.ensures.value
           ∙ sym here
           ∙ ap (λ (s : ℕ). filled cap s (harvests o.trace from n)) c.rows.invariant.so_far
           ∙ sym (filled-append cap c.args.stored (harvests o.trace start (from - start)) (harvests o.trace from n))
           ∙ ap (filled cap c.args.stored) (sym all);
-      in_cap = omega (arith, c.refilled-stored.ensures);
+      in_cap = omega (arith, c.refilled-stored.ensures.at_once);
     }

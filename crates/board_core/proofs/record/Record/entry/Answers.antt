@@ -13,4 +13,4 @@ returns-in-Slept c =
     let within : c.args.nth < s.ticks = subst (λ (r : Record). c.args.nth < width r) s.is c.requires.nth in
     ap (λ (r : Record). slice_get (entries_by c.args.cap c.args.left.now r) c.args.nth) s.is
     ∙ sleep_at c.args.cap s.tick s.stored s.harvest s.ticks c.args.nth in_cap within
-    ∙ ap (λ (n : ℕ). Some (record { tick = s.tick + c.args.nth; stored = n; drawn = 0; ticks = 1; op = op.Sleep; lost = false })) (sym c.refilled.ensures)
+    ∙ ap (λ (n : ℕ). Some (record { tick = s.tick + c.args.nth; stored = n; drawn = 0; ticks = 1; op = op.Sleep; lost = false })) (sym c.refilled.ensures.at_once)

@@ -1,6 +1,7 @@
-use Rattle.std.proofs.Common.{◌≡◌, ℕ, ◌+◌, ◌<◌, ◌≤◌, ap, arith, ◌∙◌, below_more}
+use Rattle.std.proofs.Common.{◌≡◌, ◌≤◌, inl, inr, ap, arith, ◌∙◌}
+use Rattle.std.proofs.lemmas.Bool.{cases_lt}
 use Rattle.checkpoint_slots.specs.declared.slot.Slot.{Slot}
-use Rattle.cn_report.specs.Past.{past_of, image_at, committed_at}
+use Rattle.recovery.specs.Past.{past_of, image_at, committed_at}
 use Rattle.cn_report.proofs.Moments.{committed-is, done-is, more_left}
 use Rattle.cn_report.proofs.cursor.Cursor.done.Goals as goal
 
@@ -17,10 +18,12 @@ loop-self-preserved g c =
     let at = c.loop-self.self.passed in
     let len : c.len.result ≡ (committed_at past at).len = c.len.ensures c.args.layout.now (image_at past at) c.loop-self.invariant.passed.heads ∙ ap (λ (s : Slot). s.len) (committed-is past at) in
     let here : (committed_at past at).len ≤ c.args.place = omega (arith, len, c.loop-self-test.true) in
-    let before : (n : ℕ) → n < at + 1 → (committed_at past n).len ≤ c.args.place = below_more _ _ c.loop-self.invariant.before here in
     record {
       passed = c.pass.ensures.passed;
-      before = λ n less. before n (omega (arith, less, c.pass.ensures.one));
+      before = λ n less. elim (cases_lt n at) [
+        | inl earlier ↦ c.loop-self.invariant.before n earlier
+        | inr from ↦ omega (arith, here, ap (λ (s : Slot). s.len) (c.pass.ensures.quiet n from less))
+      ];
     }
 
 pub returns-clause-done : goal.returns-clause-done

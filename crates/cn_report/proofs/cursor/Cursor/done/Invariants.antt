@@ -1,5 +1,5 @@
 use Rattle.std.proofs.Common.{◌-◌, length}
-use Rattle.cn_report.specs.Past.{past_of}
+use Rattle.recovery.specs.Past.{past_of}
 use Rattle.cn_report.specs.Passed.{HasPassed, IsBefore}
 use Rattle.cn_report.proofs.cursor.Cursor.done.Given as goal
 

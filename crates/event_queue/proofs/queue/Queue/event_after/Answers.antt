@@ -31,7 +31,7 @@ halves-preserved-then-has_come c =
     record {
       from = omega (arith, c.halves.invariant.from);
       some = omega (arith, c.halves-test.true);
-      come = λ k arrival from below is. come_to lists sound.spaced c.args.now c.args.event (c.halves.low + (c.halves.high - c.halves.low) / 2) (sym c.has_come.ensures ∙ c.if-has_come.true) k arrival below is;
+      come = λ k arrival from below is. come_to lists sound.in_order c.args.now c.args.event (c.halves.low + (c.halves.high - c.halves.low) / 2) (sym c.has_come.ensures ∙ c.if-has_come.true) k arrival below is;
       later = c.halves.invariant.later;
     }
 
@@ -48,7 +48,7 @@ returns-in-None c =
     let lists = c.args.self.now.arrivals in
     let sound : AreSound lists = subst (λ (q : QueueValue). AreSound q.arrivals) c.self.view_is c.are_sound.ensures.sound in
     let none : arrival_at lists c.args.event c.halves.low ≡ None = subst (λ (q : QueueValue). arrival_at q.arrivals c.args.event c.halves.low ≡ None) c.self.view_is (sym c.arrival.ensures ∙ c.in-None.is) in
-    tick_none lists sound.spaced c.args.now c.args.event c.args.done c.halves.low c.halves.invariant.come none
+    tick_none lists sound.in_order c.args.now c.args.event c.args.done c.halves.low c.halves.invariant.come none
 
 pub returns-in-Some : goal.returns-in-Some
 returns-in-Some c =
@@ -56,5 +56,5 @@ returns-in-Some c =
     let sound : AreSound lists = subst (λ (q : QueueValue). AreSound q.arrivals) c.self.view_is c.are_sound.ensures.sound in
     let there : arrival_at lists c.args.event c.halves.low ≡ Some c.in-Some.arrival = subst (λ (q : QueueValue). arrival_at q.arrivals c.args.event c.halves.low ≡ Some c.in-Some.arrival) c.self.view_is (sym c.arrival.ensures ∙ c.in-Some.is) in
     let met : c.halves.high ≡ c.halves.low = omega (arith, c.halves.invariant.some, c.halves-test.false) in
-    tick_some lists sound.spaced c.args.now c.args.event c.args.done c.halves.low c.in-Some.arrival c.halves.invariant.from c.halves.invariant.come there
+    tick_some lists sound.in_order c.args.now c.args.event c.args.done c.halves.low c.in-Some.arrival c.halves.invariant.from c.halves.invariant.come there
     (c.halves.invariant.later c.in-Some.arrival (subst (λ k. arrival_at lists c.args.event k ≡ Some c.in-Some.arrival) (sym met) there))

@@ -1,4 +1,4 @@
-use Rattle.std.proofs.Common.{◌≡◌, ◌≤◌, None, sym, ap, arith}
+use Rattle.std.proofs.Common.{◌≡◌, None, sym, ap, arith}
 use Rattle.harvest_trace.specs.declared.failures.Failure.{Failure}
 use Rattle.harvest_trace.specs.Failures.{first_in}
 use Rattle.harvest_trace.proofs.FailureLemmas.{first_in-found, first_in-late, first_in-past}

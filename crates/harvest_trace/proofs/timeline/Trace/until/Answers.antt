@@ -1,5 +1,4 @@
-use Rattle.std.proofs.Common.{ℕ, length, arith, sym, subst}
-use Rattle.harvest_trace.specs.Timeline.{life_of, row_at}
+use Rattle.std.proofs.Common.{ℕ, arith, sym, subst}
 use Rattle.harvest_trace.proofs.Timelines.{IsStretch, ends-rise, length_of_ends, stretch_in}
 use Rattle.harvest_trace.proofs.timeline.Trace.until.Goals as goal
 

@@ -1,0 +1,128 @@
+-- What holds throughout a life holds of the run that its report shows.
+use Rattle.std.proofs.Common.{◌≡◌, ℕ, zero, suc, ◌+◌, ◌≤◌, List, [], ◌∷◌, length, take, Option, Some, true, refl, sym, ap, ◌∙◌, subst, le_refl, arith}
+use Rattle.std.specs.Prelude.{slice_get}
+use Rattle.std.specs.Option.{option_map_or}
+use Rattle.std.proofs.lemmas.Bool.Decides.{nat_tests}
+use Rattle.std.proofs.lemmas.Option.{slice_get_within}
+use Rattle.std.proofs.Math.Seq.{take-length}
+use Rattle.cat_program.specs.Checked.{IsChecked}
+use Rattle.degradation.specs.declared.chosen.Chosen.{Chosen}
+use Rattle.nv_memory.specs.Board.{State, image_by}
+use Rattle.nv_memory.specs.declared.entry.Entry.{Entry}
+use Rattle.nv_memory.specs.declared.layout.Layout.{Layout}
+use Rattle.reference_run.specs.Reference.{Moment}
+use Rattle.logged_runs.specs.Laws.{AgreesWithOne}
+use Rattle.logged_runs.specs.Own.{AreServedOnce, IsEarlier, IsOwn, schedule_of}
+use Rattle.logged_runs.specs.Reference.{Setting}
+use Rattle.image_meaning.specs.Laws.{ImagesStandForOne}
+use Rattle.image_meaning.specs.Standing.{StandsFor}
+use Rattle.cn_scheduler.specs.Chunks.{Link, entries_of}
+use Rattle.cn_scheduler.specs.declared.choice.Choice.TheVariants.{Section}
+use Rattle.cn_scheduler.specs.InForce.{begins_by, floor_at, floor_in, in_force}
+use Rattle.cn_scheduler.specs.declared.plan.Plan.{Plan}
+use Rattle.cn_scheduler.specs.declared.plan.PlanRow.{PlanRow}
+use Rattle.lawful_timeline.specs.Claims.{AreAbove, HoldsThroughout, KeepsFloor, LawfulTimelinesHold}
+use Rattle.lawful_timeline.specs.Starting.{StartsBelong}
+use Rattle.lawful_timeline.specs.Working.{IsSetUp, setting_of, versions_at, versions_in}
+use Rattle.timely_commits.specs.Timely.{FreshRunsAreOnTime}
+use Rattle.cn_runtime.specs.Planned.{row_of}
+use Rattle.recovery.specs.Past.{image_at}
+use Rattle.catnap_top.specs.declared.files.ReplayFiles.{ReplayFiles}
+use Rattle.catnap_top.specs.Headline.{KeepsReserve, ShowsRun, past_in, run_of}
+use Rattle.catnap_top.specs.Lives.{Life, Lives, first_point}
+use Rattle.catnap_top.proofs.HeadlineDeadlines.{meets}
+use Rattle.catnap_top.proofs.HeadlineFiles.{PlanFacts}
+use Rattle.catnap_top.proofs.HeadlineText.{ReadsAgain, shows_text, boot-is, commit-is}
+
+-- ---- one row
+
+begins : (row : PlanRow) (t : ℕ) → row.from ≡ 0 → begins_by t row ≡ true
+begins row t from = grind (arith, nat_tests)
+
+only_row : (chosen : Chosen) (t : ℕ) → in_force (row_of chosen ∷ []) t ≡ Some (row_of chosen)
+only_row chosen t = rw (begins (row_of chosen) t refl) refl
+
+row_at : (chosen : Chosen) (rows : List PlanRow) (t : ℕ) → rows ≡ row_of chosen ∷ [] → in_force rows t ≡ Some (row_of chosen)
+row_at chosen rows t is = ap (λ (rs : List PlanRow). in_force rs t) is ∙ only_row chosen t
+
+-- ---- the floor
+
+above : (chosen : Chosen) (rows : List PlanRow) (entries : List Entry) (j : ℕ) (entry : Entry) → rows ≡ row_of chosen ∷ [] → AreAbove (floor_at rows) entries
+    → slice_get entries j ≡ Some entry → chosen.numbers.reserve + chosen.numbers.checkpoint ≤ entry.stored
+above chosen rows [] j entry one are is = absurd (cc)
+above chosen rows (e ∷ es) zero entry one are is =
+    let same : e ≡ entry = cc in
+    let low : floor_at rows e.tick ≡ chosen.numbers.reserve + chosen.numbers.checkpoint = ap (λ (o : Option PlanRow). option_map_or floor_in o 0) (row_at chosen rows e.tick one) in
+    subst (λ (x : Entry). chosen.numbers.reserve + chosen.numbers.checkpoint ≤ x.stored) same (omega (arith, low, are.0))
+above chosen rows (e ∷ es) (suc j) entry one are is = above chosen rows es j entry one are.1 is
+
+keeps : (chosen : Chosen) (plan : Plan) (chunks : List Link) → plan.rows ≡ row_of chosen ∷ [] → KeepsFloor plan chunks → KeepsReserve chosen chunks
+keeps chosen plan [] one floor i j chunk entry is section at = absurd (cc)
+keeps chosen plan (c ∷ cs) one floor zero j chunk entry is section at =
+    let same : c ≡ chunk = cc in
+    let kind : c.choice ≡ Section = ap (λ (l : Link). l.choice) same ∙ section in
+    above chosen plan.rows c.entries j entry one (floor.0 kind) (ap (λ (l : Link). slice_get l.entries j) same ∙ at)
+keeps chosen plan (c ∷ cs) one floor (suc i) j chunk entry is section at = keeps chosen plan cs one floor.1 i j chunk entry is section at
+
+-- ---- what the images stand for
+
+-- each image stands for a run of its own, which is an earlier moment of that of each later one
+record Stand (s : Setting) (l : Layout) (first : List ℕ) (timeline : List Entry) : Type 0 where
+  images : (i : ℕ) → i ≤ length timeline
+      → (m : Moment) × StandsFor l s.program (image_by (take i timeline) first) m × IsOwn s m × AreServedOnce s m.entries
+  earlier : (i j : ℕ) (m n : Moment) → i ≤ j → j ≤ length timeline → StandsFor l s.program (image_by (take i timeline) first) m
+      → StandsFor l s.program (image_by (take j timeline) first) n → IsEarlier s m n
+
+module _ (again : ReadsAgain) (files : ReplayFiles) (chosen : Chosen) (life : Life) (lives : Lives files chosen life) (checked : IsChecked files.program)
+    (set_up : IsSetUp files.program lives.plan) (lawful : LawfulTimelinesHold files.program lives.plan) (starts : StartsBelong files.program lives.plan)
+    (facts : PlanFacts files chosen lives.plan) (on_time : FreshRunsAreOnTime) (one : ImagesStandForOne lives.plan.layout files.program)
+    (agrees : AgreesWithOne files.program chosen.versions files.arrivals) where
+  holds : HoldsThroughout files.program lives.plan (first_point files lives.plan.layout life.origin) lives.chunks
+  holds =
+      lawful.holds (first_point files lives.plan.layout life.origin) lives.chunks set_up
+      (starts.begins (first_point files lives.plan.layout life.origin) (record { fresh = lives.fresh; off = refl; clean = refl; work_is = refl })) lives.lawful
+
+  setting_is : setting_of files.program lives.plan ≡ run_of files chosen
+  setting_is =
+      let versions : (t : ℕ) → versions_at lives.plan.rows t ≡ chosen.versions =
+      λ t. ap (λ (o : Option PlanRow). option_map_or versions_in o []) (row_at chosen lives.plan.rows t lives.is_plan.rows_are) in
+      λ i. record { program = files.program; versions = λ t. versions t i; arrivals = lives.is_plan.arrivals_are i }
+
+  timeline_is : life.state.timeline ≡ entries_of lives.chunks
+  timeline_is = ap (λ (s : State). s.timeline) (sym lives.leads) ∙ holds.timeline
+
+  stand : Stand (run_of files chosen) life.layout life.origin.image life.state.timeline
+  stand =
+      subst (λ (t : List Entry). Stand (run_of files chosen) life.layout life.origin.image t) (sym timeline_is)
+      (subst (λ (l : Layout). Stand (run_of files chosen) l life.origin.image (entries_of lives.chunks)) (sym lives.layout_is)
+      (subst (λ (s : Setting). Stand s lives.plan.layout life.origin.image (entries_of lives.chunks)) setting_is
+      (record { images = holds.images; earlier = holds.earlier })))
+
+  pub shows_run : ShowsRun files chosen life lives
+  unfolding image_at
+  shows_run =
+      let n : ℕ = length life.state.timeline in
+      let last = stand.images n (le_refl n) in
+      let stands : StandsFor lives.plan.layout files.program (image_by (entries_of lives.chunks) life.origin.image) last.0 =
+      subst (λ (l : Layout). StandsFor l files.program (image_by (entries_of lives.chunks) life.origin.image) last.0) lives.layout_is
+      (subst (λ (t : List Entry). StandsFor life.layout files.program (image_by t life.origin.image) last.0) (take-length life.state.timeline ∙ timeline_is) last.1) in
+      record {
+        final = last.0;
+        reference = last.2;
+        interpreted = (agrees.same (schedule_of last.0.entries last.0.steps) last.0).0 last.2;
+        text = shows_text again files checked chosen life (ap (λ (l : Layout). l.words) lives.layout_is ∙ lives.is_plan.layout_is.words) last.0 last.1;
+        moments = λ k entry is.
+            let within = slice_get_within life.state.timeline k entry is in
+            let here = stand.images (k + 1) (omega (arith, within)) in
+            record {
+              moment = here.0;
+              stands = here.1;
+              own = here.2;
+              earlier = stand.earlier (k + 1) n here.0 last.0 (omega (arith, within)) (le_refl n) here.1 last.1;
+              boot = λ op done. boot-is files.program (past_in life) k entry here.0 is here.1 done op;
+              commit = λ left op done. commit-is files.program (past_in life) k entry here.0 is here.1 done left op;
+            };
+        once = last.3;
+        reserve = keeps chosen lives.plan lives.chunks lives.is_plan.rows_are holds.floor;
+        deadlines = meets files chosen life lives facts set_up on_time one holds setting_is timeline_is last.0 stands;
+      }

@@ -1,0 +1,16 @@
+use Rattle.catnap_top.proofs.HeadlineAnswer.{replays_show}
+use Rattle.catnap_top.proofs.headline.replays_show_runs.Goals as goal
+
+pub returns : goal.returns
+returns c =
+    replays_show
+    (record {
+      program = c.checked_law.ensures.checked;
+      timings = c.told_arrivals_are_sound.ensures.timings;
+      events = c.told_arrivals_are_sound.ensures.events;
+      sound = c.told_arrivals_are_sound.ensures.sound;
+      suits = c.choices_suit.ensures;
+      set_up = c.plans_are_set_up.ensures;
+      planned = c.plans_are_planned.ensures;
+    })
+    c.records_are_read_again.ensures c.lawful_timelines_hold.ensures c.starts_belong.ensures c.fresh_runs_are_on_time.ensures c.images_stand_for_one.ensures c.agrees_with_one.ensures

@@ -1,0 +1,31 @@
+//! What the report of a replay shows: a law of the definitions, with no code.
+
+ghost use Rattle.catnap_top.specs.Headline.{ReplaysShowRuns};
+
+use cat_resolve::checked_law;
+use cn_runtime::{plans_are_planned, plans_are_set_up};
+use degradation::choices_suit;
+use event_arrivals::told_arrivals_are_sound;
+use image_meaning::images_stand_for_one;
+use lawful_timeline::{lawful_timelines_hold, starts_belong};
+use logged_runs::agrees_with_one;
+use nv_log::records_are_read_again;
+use timely_commits::fresh_runs_are_on_time;
+
+/// The report of every replay that ends shows one run of the program that never loses power, in which each arrival that comes and is due in
+/// a calm stretch is met.
+pub fn replays_show_runs()
+    ensures { ReplaysShowRuns }
+{
+    checked_law();
+    told_arrivals_are_sound();
+    choices_suit();
+    plans_are_set_up();
+    plans_are_planned();
+    agrees_with_one();
+    images_stand_for_one();
+    fresh_runs_are_on_time();
+    starts_belong();
+    lawful_timelines_hold();
+    records_are_read_again();
+}

@@ -1,0 +1,4 @@
+pub mod Later
+pub mod Coming
+pub mod Alike
+pub mod Ends
