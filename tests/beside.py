@@ -17,83 +17,6 @@ import tempfile
 
 import generate
 
-SHAPES = [
-    {},
-    {"tasks": 1, "events": 0},
-    {"tasks": 0, "events": 4, "depth": 1, "length": 2, "reach": 1},
-    {"tasks": 2, "events": 2, "depth": 2, "length": 2, "reach": 1},
-    {"tasks": 2, "events": 2, "depth": 2, "length": 2, "reach": 1},
-    {"tasks": 3, "events": 5, "versions": 4, "depth": 1, "length": 3, "reach": 1},
-    {"tasks": 1, "events": 16, "versions": 1, "depth": 0, "length": 1, "reach": 0},
-    {"tasks": 16, "events": 1, "depth": 1, "length": 2, "reach": 0},
-]
-
-
-def source(random):
-    clock = random.choice([30, 60, 100, 250, 997])
-    return generate.Source(random, **{"clock": clock, **random.choice(SHAPES)}).text
-
-
-def device(random):
-    """A profile: mostly one with room for everything, else one that is short of something."""
-    costs = {}
-    for name in generate.CLASSES:
-        bound = random.choice([0, 1, 1, 2, 3, 5, 9])
-        actual = random.choice([bound, bound, bound, random.randint(0, bound), bound + random.randint(1, 3)])
-        costs[name] = (random.choice([1, 1, 1, 1, 2, 3]), bound, actual)
-    cap = random.choice([30, 60, 100, 200, 500, 2000, 2000, 2000, 1000000])
-    top = {
-        "cap": cap,
-        "start": random.choice([0, cap, cap, random.randint(0, cap)]),
-        "resume": random.choice([0, 0, 0, random.randint(0, cap), cap]),
-        "log": random.choice([1, 2, 3, 10, 40, 500, 500, 500]),
-        "p": random.choice([1, 5, 10, 30, 50, 100]),
-        "q": random.choice([0, 1, 5, 30, 100, 300, 1000]),
-        "fill": generate.fill(random),
-    }
-    return generate.device(top, costs)
-
-
-def trace(random):
-    """Rows of some hundred ticks, or of some thousand: even, in bursts, dark or at random."""
-    rows, left = [], random.choice([0, 1, 50, 400, 400, 1500, 1500, 6000])
-    kind = random.choice(["even", "bursts", "dark", "random", "random"])
-    while left > 0:
-        ticks = min(left, random.choice([1, 1, 2, 5, 20, 100, 400]))
-        harvest = {"even": 3, "bursts": random.choice([0, 0, 0, 200]), "dark": 0, "random": random.choice([0, 0, 1, 2, 5, 30])}[kind]
-        extra = random.choice([0, 0, 0, 0, 1, 2, 10])
-        rows.append((ticks, harvest, extra, random.choice([0, 5, -7, random.randint(-(2**31), 2**31 - 1)])))
-        left -= ticks
-    return generate.trace(rows)
-
-
-def arrivals(random, text):
-    names = [event.name for event in generate.events_of(text) if not event.is_periodic]
-    ticks = sorted(random.choice([0, random.randrange(100), random.randrange(1500), random.randrange(8000)]) for _ in range(random.choice([0, 2, 10, 40])))
-    if random.random() < 0.03:
-        random.shuffle(ticks)
-    rows = [(tick, random.choice(names), random.choice([0, 1, random.randint(-(2**31), 2**31 - 1)])) for tick in ticks if names]
-    return generate.arrivals(rows)
-
-
-def failures(random, ticks):
-    """Failures in these ticks, each with a fill of its own."""
-    return generate.failures((tick, generate.fill(random)) for tick in sorted(set(ticks)) if 0 <= tick < 1000000)
-
-
-def failing_ticks(random, marks):
-    """Ticks in which to fail: none, some, many, long rows, and those around the writes and wakes that a report tells of."""
-    yield "no", []
-    for share in (0.005, 0.05, 0.4):
-        yield f"{share} of all", [tick for tick in range(random.choice([300, 2000])) if random.random() < share]
-    begin = random.randrange(300)
-    yield "a row of", range(begin, begin + random.choice([5, 50, 300]))
-    for mark in random.sample(marks, min(3, len(marks))):
-        for back in range(1, 1 + random.choice([2, 6])):
-            yield f"a tick {back} before {mark.kind} {mark.tick}, then", [mark.tick - back]
-    yield "the ends of all writes in", [mark.tick - random.choice([1, 1, 2, 3]) for mark in marks if random.random() < 0.7]
-
-
 class Beside:
     """Two programs in one folder, and a count of what they answered."""
 
@@ -128,19 +51,19 @@ class Beside:
 
     def case(self, random, label):
         """One source: run, listed, checked on some devices, and replayed on one of them."""
-        self.put(source=source(random))
+        self.put(source=generate.any_source(random))
         self.ask(label, ["run", "source", str(random.choice([0, 1, 20, 3000, 100000]))])
         self.ask(label, ["list", "source"])
         for _ in range(6):
-            self.put(device=device(random))
+            self.put(device=generate.any_device(random))
             if self.ask(label, ["check", "source", "device"]).status == 0:
                 break
-        self.put(trace=trace(random), arrivals=arrivals(random, self.files["source"]), failures=generate.failures([]))
+        self.put(trace=generate.any_trace(random), arrivals=generate.any_arrivals(random, self.files["source"]), failures=generate.failures([]))
         first = self.ask(label, generate.REPLAY)
         if first.status not in (0, 12):
             return
-        for some, ticks in failing_ticks(random, generate.Report(first.text).marks):
-            self.put(failures=failures(random, ticks))
+        for some, ticks in generate.failing_ticks(random, generate.Report(first.text).marks):
+            self.put(failures=generate.any_failures(random, ticks))
             self.ask(f"{label}, {some} failing", generate.REPLAY)
 
 

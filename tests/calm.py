@@ -149,7 +149,7 @@ class Case:
         return rows
 
 
-def faults_of(report, chosen, source, rows, life):
+def faults_of(report, chosen, source, rows, trace):
     """What is late, lost or missing in the report of a calm replay, and how many arrivals were looked at."""
     faults, looked = [], 0
     if any(mark.kind == "lost" for mark in report.marks):
@@ -161,7 +161,7 @@ def faults_of(report, chosen, source, rows, life):
     lines = collections.Counter((entry.name, entry.index) for entry in report.ran())
     told = {(entry.name, entry.index): entry for entry in report.ran()}
     for event in generate.events_of(source):
-        for index, tick in enumerate(generate.kept(event, rows, life)):
+        for index, (tick, _) in enumerate(generate.kept(event, rows, trace)):
             if tick + event.deadline > report.end.tick:
                 continue
             looked += 1
@@ -199,7 +199,7 @@ def main():
             answer = generate.run(program, generate.REPLAY, folder)
             faults = [f"status {answer.status} {answer.text[:80]!r} {answer.errors[:80]!r}"]
             if answer.status in (0, 12) and not answer.errors:
-                faults, more = faults_of(generate.Report(answer.text), case.chosen, case.source, rows, life)
+                faults, more = faults_of(generate.Report(answer.text), case.chosen, case.source, rows, trace)
                 looked += more
             if not faults:
                 passed += 1

@@ -93,6 +93,12 @@ def failures(rows):
     return table("tick,fill", (",".join(map(str, row)) for row in rows))
 
 
+def rows_of(text):
+    """The rows of a plain table, numbers as such."""
+    rows = [line.split(",") for line in text.split("\n")[1:] if line]
+    return [[int(field) if re.fullmatch(r"-?\d+", field) else field for field in row] for row in rows]
+
+
 def fill(random):
     """A fill: a byte of an even or odd gate, an entry's spelling, or any bytes."""
     kind = random.randrange(4)
@@ -231,15 +237,96 @@ def events_of(source):
     return [Event(name, bool(period), int(period or spacing), int(offset or 0), int(deadline)) for name, period, offset, spacing, deadline in HEADER.findall(source)]
 
 
-def kept(event, rows, life):
-    """The ticks at which an event arrives before the end of a trace, without those that are dropped."""
+def kept(event, rows, trace):
+    """The arrivals of an event before the end of a trace, as ticks with payloads, without those that are dropped.
+    The rows are those of the two tables."""
     if event.is_periodic:
-        return list(range(event.offset, life, event.spacing))
-    ticks = []
-    for tick, name, _ in rows:
-        if name == event.name and tick < life and (not ticks or tick >= ticks[-1] + event.spacing):
-            ticks.append(tick)
-    return ticks
+        samples = [sample for ticks, _, _, sample in trace for _ in range(ticks)]
+        return [(tick, samples[tick]) for tick in range(event.offset, len(samples), event.spacing)]
+    life, found = sum(row[0] for row in trace), []
+    for tick, name, payload in rows:
+        if name == event.name and tick < life and (not found or tick >= found[-1][0] + event.spacing):
+            found.append((tick, payload))
+    return found
+
+
+# Whole cases
+
+SHAPES = [
+    {},
+    {"tasks": 1, "events": 0},
+    {"tasks": 0, "events": 4, "depth": 1, "length": 2, "reach": 1},
+    {"tasks": 2, "events": 2, "depth": 2, "length": 2, "reach": 1},
+    {"tasks": 2, "events": 2, "depth": 2, "length": 2, "reach": 1},
+    {"tasks": 3, "events": 5, "versions": 4, "depth": 1, "length": 3, "reach": 1},
+    {"tasks": 1, "events": 16, "versions": 1, "depth": 0, "length": 1, "reach": 0},
+    {"tasks": 16, "events": 1, "depth": 1, "length": 2, "reach": 0},
+]
+
+
+def any_source(random):
+    clock = random.choice([30, 60, 100, 250, 997])
+    return Source(random, clock=clock, **random.choice(SHAPES)).text
+
+
+def any_device(random):
+    """A profile: mostly one with room for everything, else one that is short of something."""
+    costs = {}
+    for name in CLASSES:
+        bound = random.choice([0, 1, 1, 2, 3, 5, 9])
+        actual = random.choice([bound, bound, bound, random.randint(0, bound), bound + random.randint(1, 3)])
+        costs[name] = (random.choice([1, 1, 1, 1, 2, 3]), bound, actual)
+    cap = random.choice([30, 60, 100, 200, 500, 2000, 2000, 2000, 1000000])
+    top = {
+        "cap": cap,
+        "start": random.choice([0, cap, cap, random.randint(0, cap)]),
+        "resume": random.choice([0, 0, 0, random.randint(0, cap), cap]),
+        "log": random.choice([1, 2, 3, 10, 40, 500, 500, 500]),
+        "p": random.choice([1, 5, 10, 30, 50, 100]),
+        "q": random.choice([0, 1, 5, 30, 100, 300, 1000]),
+        "fill": fill(random),
+    }
+    return device(top, costs)
+
+
+def any_trace(random):
+    """Rows of some hundred ticks, or of some thousand: even, in bursts, dark or at random."""
+    rows, left = [], random.choice([0, 1, 50, 400, 400, 1500, 1500, 6000])
+    kind = random.choice(["even", "bursts", "dark", "random", "random"])
+    while left > 0:
+        ticks = min(left, random.choice([1, 1, 2, 5, 20, 100, 400]))
+        harvest = {"even": 3, "bursts": random.choice([0, 0, 0, 200]), "dark": 0, "random": random.choice([0, 0, 1, 2, 5, 30])}[kind]
+        extra = random.choice([0, 0, 0, 0, 1, 2, 10])
+        rows.append((ticks, harvest, extra, random.choice([0, 5, -7, random.randint(-(2**31), 2**31 - 1)])))
+        left -= ticks
+    return trace(rows)
+
+
+def any_arrivals(random, text):
+    names = [event.name for event in events_of(text) if not event.is_periodic]
+    ticks = sorted(random.choice([0, random.randrange(100), random.randrange(1500), random.randrange(8000)]) for _ in range(random.choice([0, 2, 10, 40])))
+    if random.random() < 0.03:
+        random.shuffle(ticks)
+    rows = [(tick, random.choice(names), random.choice([0, 1, random.randint(-(2**31), 2**31 - 1)])) for tick in ticks if names]
+    return arrivals(rows)
+
+
+def any_failures(random, ticks):
+    """Failures in these ticks, each with a fill of its own."""
+    return failures((tick, fill(random)) for tick in sorted(set(ticks)) if 0 <= tick < 1000000)
+
+
+def failing_ticks(random, marks):
+    """Ticks in which to fail: none, some, many, long rows, and those around the writes and wakes that a report tells of."""
+    yield "no", []
+    for share in (0.005, 0.05, 0.4):
+        yield f"{share} of all", [tick for tick in range(random.choice([300, 2000])) if random.random() < share]
+    begin = random.randrange(300)
+    yield "a row of", range(begin, begin + random.choice([5, 50, 300]))
+    for mark in random.sample(marks, min(3, len(marks))):
+        for back in range(1, 1 + random.choice([2, 6])):
+            yield f"a tick {back} before {mark.kind} {mark.tick}, then", [mark.tick - back]
+    yield "the ends of all writes in", [mark.tick - random.choice([1, 1, 2, 3]) for mark in marks if random.random() < 0.7]
 
 
 # Reports
