@@ -6,7 +6,7 @@ usage: tests/hostile.py PROGRAM [--short] [--beside OTHER] [--seed N] [--rounds 
 Of every run it is checked that the status is one that README.md names for the command, that standard output holds one
 fault line of it or a whole answer, that nothing is on standard error, and that it takes some seconds at most. And:
 
-- where files can't be read: status 3, with the first of them in the order of the words;
+- where words have no form: status 2; where files can't be read: status 3, with the first of them in the order of the words;
 - where standard output is closed, or full after any number of bytes: status 4 and a proper prefix of the text;
 - for files at both ends of a limit: the answer on each side;
 - for mutations of the files of tests/rows, N rounds over all rows (60): what is said above.
@@ -172,6 +172,24 @@ def unreadable(tests, short):
                     # what is wrong with a file counts for nothing where another one can't be read
                     if some[0] != 1 and name == "nothing":
                         tests.look(f"{words[0]}, bad source, words {some} {label}", put(changed, 1, "bad"), wanted)
+
+
+def odd_words(tests, short):
+    """Words of no form, and files that come through a pipe."""
+    lists = [[], [""], ["run"], ["run", "source"], ["run", "source", "1", "1"], ["Run", "source", "1"], ["run\n", "source", "1"], ["-h"], ["--version"], ["list"], ["list", "source", "source"]]
+    lists += [["check", "source"], generate.REPLAY[:-1], [*generate.REPLAY, "source"], ["x" * 100000], ["run"] * 10000, ["list", "\udcff"], ["\udcc3("], ["replay"] + [""] * 6]
+    for words in lists:
+        tests.look(f"words {str(words)[:60]}", words, (2, b"fault usage\n"))
+    for words in FORMS:
+        for place in places(words):
+            answers = [generate.run(tests.program, words, tests.folder)]
+            reader, writer = os.pipe()
+            os.write(writer, FILES[words[place]])
+            os.close(writer)
+            answers.append(generate.run(tests.program, put(words, place, "/dev/stdin"), tests.folder, stdin=reader))
+            os.close(reader)
+            fault = None if answers[0][:3] == answers[1][:3] else f"status {answers[1].status} {answers[1].text[:80]!r}"
+            tests.tell(f"{words[0]}, {words[place]} through a pipe", fault, words, answers)
 
 
 # Outputs that fail
@@ -544,6 +562,7 @@ def main():
     with tempfile.TemporaryDirectory() as folder:
         tests = Tests(os.path.abspath(words[0]), other and os.path.abspath(other), folder, kept and os.path.abspath(kept))
         unreadable(tests, short)
+        odd_words(tests, short)
         full_outputs(tests, short)
         hostile_files(tests, short)
         mutations(tests, seed, rounds, short)
