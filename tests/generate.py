@@ -157,7 +157,7 @@ class Source:
         return "{ " + "".join(self.statement(depth) + " " for _ in range(self.random.randint(0, most))) + "}"
 
     def statement(self, depth):
-        kinds = ["set", "set", "set", "out"]
+        kinds = ["set", "set", "set", "out", "out"]
         kinds += ["bool"] * bool(self.bools) + ["element"] * bool(self.arrays) + ["post"] * bool(self.tasks)
         if depth > 0:
             kinds += ["if", "loop"]
