@@ -1,14 +1,19 @@
 #!/usr/bin/env python3
 """Times a program with the words of catnap on generated inputs.
 
-usage: bench/run.py PROGRAM [--beside OTHER] [REPEATS] [CASE..]
+usage: bench/run.py PROGRAM [--beside OTHER] [--count] [--double] [REPEATS] [CASE..]
 
 Prints one line a case: its name, the median seconds of REPEATS runs (5), the peak memory in KB, the status and the
 count of bytes written. A CASE that ends in '-' stands for all whose names begin so, as 'replay-'. With OTHER, a
-second program that answers the same words, a line for it follows each, and says 'alike' where status and bytes are
-those of the first.
+second program that answers the same words, a line for it follows each. It says 'alike' where status and bytes are
+those of the first, and how many times the seconds and the memory of OTHER the first program takes.
+
+With --count the instructions of one run are counted (by valgrind), in place of seconds: they hardly depend on what else
+the machine does. With --double each case is also run on half of its input, and the line says how many times the cost is
+that of the half.
 """
 import os
+import re
 import statistics
 import subprocess
 import sys
@@ -33,10 +38,15 @@ q = {q}
 fill = "00"
 """ + "".join(f"[{name}]\nticks = 1\nbound = 1\nactual = 1\n" for name in ("basic", "memory", "out", "write", "wake"))
 
-# 16 events whose window is 720,720 ticks, and 48 mentions in their degrade order
+# up to 16 events whose window is 720,720 ticks, and three mentions of each in their degrade order
 SPACINGS = [1001, 1008, 1040, 1092, 1144, 1170, 1232, 1260, 1287, 1365, 1386, 1430, 1456, 1540, 1560, 1584]
-MANY = "".join(f"event e{i} spacing {t} deadline {t} {{ out 1, {i}; }} else {{ out 1, 1; }} else {{ out 1, 2; }} else {{ out 1, 3; }}\n" for i, t in enumerate(SPACINGS))
-MANY += "degrade " + ", ".join(f"e{i}" for i in range(16)) + ";\n" + ("degrade " + ", ".join(f"e{i}" for i in range(16)) + ";\n") * 2
+
+
+def many_events(count):
+    versions = "{{ out 1, {0}; }} else {{ out 1, 1; }} else {{ out 1, 2; }} else {{ out 1, 3; }}"
+    events = [f"event e{i} spacing {t} deadline {t} {versions.format(i)}\n" for i, t in enumerate(SPACINGS[:count])]
+    return "".join(events) + ("degrade " + ", ".join(f"e{i}" for i in range(count)) + ";\n") * 3
+
 
 TOP = "cap = 1000\nstart = 1000\nresume = 0\nlog = 1000000\np = 10\nq = {q}\nfill = \"00\"\n"
 COSTS = (("basic", 1, 1), ("memory", 1, 2), ("out", 1, 4), ("write", 1, 3), ("wake", 2, 5))
@@ -66,43 +76,47 @@ def replay(source, device, ticks, arrivals=(), failures=()):
     return files, ["replay", "S", "D", "T", "A", "F"]
 
 
-STEADY = trace("1000000,50,0,0")
-RESTS = trace(*(f"90,1,0,{i % 9}\n10,0,0,{i % 5}" for i in range(10000)))
-
-# name: (files, words)
-CASES = {
-    "check-16-events": ({"F": MANY, "D": DEVICE.format(q=1000000)}, ["check", "F", "D"]),
-    "check-49-vectors": ({"F": MANY, "D": DEVICE.format(q=50000)}, ["check", "F", "D"]),
-    "check-49-reserves": ({"F": MANY, "D": DEVICE.format(q=1000000).replace("cap = 1000000", "cap = 300")}, ["check", "F", "D"]),
-    # a profile of the greatest length
-    "check-profile-longest": (
-        {"F": "event e spacing 1001 deadline 1001 { out 1, 1; }\n", "D": (DEVICE.format(q=720720) + "#").ljust(16777216, "x")},
-        ["check", "F", "D"],
-    ),
-    "check-60000": ({"F": long_task("x = x + 1 ;     ", 14999), "D": DEVICE.format(q=1000)}, ["check", "F", "D"]),
-    "run-loop-1000000": ({"F": LOOP}, ["run", "F", "1000000"]),
-    "run-outputs-1000000": ({"F": OUTPUTS}, ["run", "F", "1000000"]),
-    "list-60000": ({"F": long_task("x = x + 1 ;     ", 14999)}, ["list", "F"]),
-    "run-14900-sums": ({"F": long_task("x=x+1;", 14900)}, ["run", "F", "1000000"]),
-    "run-29000-outputs": ({"F": long_task("out 1,x;", 29000)}, ["run", "F", "1000000"]),
-    "run-names-1024": (
-        {"F": "".join(f"int v{i} = {i};" for i in range(1024)) + "task t {" + "".join(f"v{i}=v{(i * 7 + 3) % 1024}+1;" for i in range(1024)) * 10 + "} start t;"},
-        ["run", "F", "1000000"],
-    ),
-    # a million ticks of task work: without a loss, with one in each ten ticks, and with an output in each round and less harvest than work
-    "replay-work-1000000": replay(WORK, NODE.format(q=5), STEADY),
-    "replay-work-100000-failures": replay(WORK, NODE.format(q=5), STEADY, failures=[f"{10 * i + 3},{i % 256:02X}" for i in range(100000)]),
-    "replay-outputs": replay(OUTPUTS, NODE.format(q=5), trace("1000000,1,0,0")),
-    "replay-sleep-1000000": replay(ONE_EVENT, NODE.format(q=5), trace("1000000,0,0,0")),
-    # sleep over the most rows that these ticks give, and work over them
-    "replay-rows-200000": replay(ONE_EVENT, NODE.format(q=5), trace(*(f"{4 + i % 3},{i % 2},0,{i % 7}" for i in range(200000)))),
-    "replay-work-rows-200000": replay(WORK, NODE.format(q=5), trace(*(f"{4 + i % 3},{6 + i % 2},0,{i % 7}" for i in range(200000)))),
-    # events that each wake the board, periodic ones and the most rows of arrivals
-    "replay-events-10000": replay(PERIODIC, NODE.format(q=5), RESTS),
-    "replay-arrivals-100000": replay(
-        "event e spacing 10 deadline 10 { }\n", NODE.format(q=15), trace("1000000,2,0,0"), arrivals=[f"{10 * i},e,0" for i in range(100000)]
-    ),
-}
+def cases(part):
+    """The cases, by their names, as files and words: on all of their input, or on one of `part` parts of it."""
+    million = 1000000 // part
+    many = many_events(16 // part)
+    task = long_task("x = x + 1 ;     ", 14999 // part)
+    steady = trace(f"{million},50,0,0")
+    rests = trace(*(f"90,1,0,{i % 9}\n10,0,0,{i % 5}" for i in range(10000 // part)))
+    names = range(1024 // part)
+    return {
+        "check-16-events": ({"F": many, "D": DEVICE.format(q=1000000)}, ["check", "F", "D"]),
+        "check-49-vectors": ({"F": many, "D": DEVICE.format(q=50000 // part)}, ["check", "F", "D"]),
+        "check-49-reserves": ({"F": many, "D": DEVICE.format(q=1000000).replace("cap = 1000000", f"cap = {300 // part}")}, ["check", "F", "D"]),
+        # a profile of the greatest length
+        "check-profile-longest": (
+            {"F": "event e spacing 1001 deadline 1001 { out 1, 1; }\n", "D": (DEVICE.format(q=720720) + "#").ljust(16777216 // part, "x")},
+            ["check", "F", "D"],
+        ),
+        "check-60000": ({"F": task, "D": DEVICE.format(q=1000)}, ["check", "F", "D"]),
+        "run-loop-1000000": ({"F": LOOP}, ["run", "F", str(million)]),
+        "run-outputs-1000000": ({"F": OUTPUTS}, ["run", "F", str(million)]),
+        "list-60000": ({"F": task}, ["list", "F"]),
+        "run-14900-sums": ({"F": long_task("x=x+1;", 14900 // part)}, ["run", "F", "1000000"]),
+        "run-29000-outputs": ({"F": long_task("out 1,x;", 29000 // part)}, ["run", "F", "1000000"]),
+        "run-names-1024": (
+            {"F": "".join(f"int v{i} = {i};" for i in names) + "task t {" + "".join(f"v{i}=v{(i * 7 + 3) % len(names)}+1;" for i in names) * 10 + "} start t;"},
+            ["run", "F", "1000000"],
+        ),
+        # a million ticks of task work: without a loss, with one in each ten ticks, and with an output in each round and less harvest than work
+        "replay-work-1000000": replay(WORK, NODE.format(q=5), steady),
+        "replay-work-100000-failures": replay(WORK, NODE.format(q=5), steady, failures=[f"{10 * i + 3},{i % 256:02X}" for i in range(100000 // part)]),
+        "replay-outputs": replay(OUTPUTS, NODE.format(q=5), trace(f"{million},1,0,0")),
+        "replay-sleep-1000000": replay(ONE_EVENT, NODE.format(q=5), trace(f"{million},0,0,0")),
+        # sleep over the most rows that these ticks give, and work over them
+        "replay-rows-200000": replay(ONE_EVENT, NODE.format(q=5), trace(*(f"{4 + i % 3},{i % 2},0,{i % 7}" for i in range(200000 // part)))),
+        "replay-work-rows-200000": replay(WORK, NODE.format(q=5), trace(*(f"{4 + i % 3},{6 + i % 2},0,{i % 7}" for i in range(200000 // part)))),
+        # events that each wake the board, periodic ones and the most rows of arrivals
+        "replay-events-10000": replay(PERIODIC, NODE.format(q=5), rests),
+        "replay-arrivals-100000": replay(
+            "event e spacing 10 deadline 10 { }\n", NODE.format(q=15), trace(f"{million},2,0,0"), arrivals=[f"{10 * i},e,0" for i in range(100000 // part)]
+        ),
+    }
 
 
 # Starts a program and tells its seconds, peak memory and status. It runs in a small process of its own, since a program's
@@ -116,25 +130,50 @@ print(time.perf_counter() - began, usage.ru_maxrss, os.waitstatus_to_exitcode(co
 """
 
 
-def measure(program, words, folder, repeats):
-    seconds, peak, status = [], 0, None
-    written = os.path.join(folder, "written")
-    for _ in range(repeats):
-        with open(written, "wb") as out:
-            starter = [sys.executable, "-I", "-S", "-c", STARTER, program, *words]
-            told = subprocess.run(starter, cwd=folder, stdout=out, stderr=subprocess.PIPE, check=True).stderr.split()
-        seconds.append(float(told[0]))
-        peak = max(peak, int(told[1]))
-        status = int(told[2])
-    with open(written, "rb") as file:
-        return statistics.median(seconds), peak, status, file.read()
+class Run:
+    """A program's answer to words in a folder: its cost, as seconds or instructions, its peak memory, status and text."""
+
+    def __init__(self, program, words, folder, repeats, is_count):
+        seconds, self.peak = [], 0
+        written = os.path.join(folder, "written")
+        for _ in range(1 if is_count else repeats):
+            with open(written, "wb") as out:
+                starter = [sys.executable, "-I", "-S", "-c", STARTER, program, *words]
+                told = subprocess.run(starter, cwd=folder, stdout=out, stderr=subprocess.PIPE, check=True).stderr.split()
+            seconds.append(float(told[0]))
+            self.peak = max(self.peak, int(told[1]))
+            self.status = int(told[2])
+        with open(written, "rb") as file:
+            self.text = file.read()
+        self.cost, self.unit = (instructions(program, words, folder), "instructions") if is_count else (statistics.median(seconds), "s")
+
+    def line(self):
+        cost = f"{self.cost:.4f}" if self.unit == "s" else f"{self.cost:.0f}"
+        return f"{cost} {self.unit} {self.peak} KB status {self.status} bytes {len(self.text)}"
 
 
-def named(names):
+def instructions(program, words, folder):
+    """How many instructions a run takes."""
+    count = ["valgrind", "--tool=callgrind", "--callgrind-out-file=/dev/null", program, *words]
+    told = subprocess.run(count, cwd=folder, stdout=subprocess.DEVNULL, stderr=subprocess.PIPE).stderr
+    return float(re.search(rb"Collected : (\d+)", told).group(1))
+
+
+def runs(programs, case, repeats, is_count):
+    """The runs of some programs on a case."""
+    files, words = case
+    with tempfile.TemporaryDirectory() as folder:
+        for file, text in files.items():
+            with open(os.path.join(folder, file), "w") as made:
+                made.write(text)
+        return [Run(program, words, folder, repeats, is_count) for program in programs]
+
+
+def named(names, known):
     """The cases of these names, a name that ends in '-' standing for all that begin so."""
-    for name in names or CASES:
+    for name in names or known:
         if name.endswith("-"):
-            yield from (case for case in CASES if case.startswith(name))
+            yield from (case for case in known if case.startswith(name))
         else:
             yield name
 
@@ -146,23 +185,25 @@ def main():
         place = words.index("--beside")
         other = words[place + 1]
         del words[place : place + 2]
+    is_count, is_double = "--count" in words, "--double" in words
+    words = [word for word in words if word not in ("--count", "--double")]
     if not words:
         sys.exit(__doc__)
     programs = [os.path.abspath(program) for program in [words[0], other] if program]
     repeats = int(words[1]) if len(words) > 1 else 5
-    for name in named(words[2:]):
-        files, case = CASES[name]
-        first = None
-        with tempfile.TemporaryDirectory() as folder:
-            for file, text in files.items():
-                with open(os.path.join(folder, file), "w") as made:
-                    made.write(text)
-            for program in programs:
-                median, peak, status, text = measure(program, case, folder, repeats)
-                told = "" if first is None else " alike" if first == (status, text) else " DIFFERENT"
-                first = first or (status, text)
-                label = "  beside" if told else name
-                print(f"{label} {median:.4f} s {peak} KB status {status} bytes {len(text)}{told}", flush=True)
+    whole, half = cases(1), cases(2) if is_double else None
+    for name in named(words[2:], whole):
+        found = runs(programs, whole[name], repeats, is_count)
+        halves = runs(programs, half[name], repeats, is_count) if half else []
+        for place, run in enumerate(found):
+            line = ("  beside " if place else f"{name} ") + run.line()
+            if halves:
+                line += f" {run.cost / halves[place].cost:.2f} times the half"
+            if place:
+                first = found[0]
+                line += " alike" if (first.status, first.text) == (run.status, run.text) else " DIFFERENT"
+                line += f" {first.cost / run.cost:.2f} times the {'seconds' if run.unit == 's' else run.unit} {first.peak / run.peak:.2f} times the memory"
+            print(line, flush=True)
 
 
 main()
