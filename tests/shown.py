@@ -5,7 +5,8 @@ usage: tests/shown.py PROGRAM [PAGE..]
 
 A command stands in a block that is indented by four spaces, or in a fenced block with the word sh. The lines up to the
 first empty line are the commands, and what follows the empty line is what the last of them prints on standard output.
-Only blocks whose first line begins with a word of RUN are run here; others prove, install or need other machines. In what is shown a line '..' stands for any lines, and what follows four spaces in a row
+Only blocks whose first line begins with a word of RUN and that have no word in capitals, which stands for some file, are
+run here; others prove, install or need other machines. In what is shown a line '..' stands for any lines, and what follows four spaces in a row
 is a remark. A block with no such second part only has to end with no complaint.
 
 A fenced block whose first line names a file of the repository behind its language, as ```toml examples/a.toml, has to be
@@ -27,6 +28,7 @@ TOP = os.path.dirname(os.path.dirname(os.path.abspath(__file__)))
 SECONDS = 300
 RUN = ("./catnap ", "tools/", "sed ", "cat ", "grep ", "head ", "tail ", "editors/")
 TESTS = "./run-tests"
+GENERAL = re.compile(r"(?<![$\w])[A-Z]{3,}\b")  # a word in capitals stands for some file or number
 GAP = ".."
 
 
@@ -150,8 +152,8 @@ def main():
                     what = f"the block of {fence[1]}"
                 else:
                     commands, shown = commands_in(lines)
-                    if (fence and fence != ["sh"]) or not commands or not commands[0].startswith(RUN):
-                        if commands and commands[0].startswith("./") and commands[0] != TESTS:
+                    if (fence and fence != ["sh"]) or not commands or not commands[0].startswith(RUN) or GENERAL.search(" ".join(commands)):
+                        if commands and commands[0].startswith("./") and commands[0] != TESTS and not GENERAL.search(commands[0]):
                             print(f"shown: {page}: '{commands[0]}' is no command that this test knows")
                             counts["bad"] += 1
                         continue
