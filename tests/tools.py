@@ -1,5 +1,6 @@
 #!/usr/bin/env python3
-"""Tests the scripts of tools/ and editors/ with a built program. No display is needed.
+"""Tests the scripts of tools/ with a built program, and the launcher ./catnap with an rt that only pretends to prove. No
+display is needed.
 
 usage: tests/tools.py PROGRAM
 
@@ -335,6 +336,125 @@ def test_lint(program, folder):
         answering = write(folder, "answering", f'#!/bin/sh\necho "{line}"\nexit 5\n')
         os.chmod(answering, 0o755)
         same(tool("lint", bad, "--program", answering).stdout, f"{bad}:{place}: error: {line.split()[2]}\n")
+
+
+# ./catnap
+
+FAKE_RT = """#!{python}
+import os, sys, time
+top, words = {top!r}, sys.argv[1:]
+crates = ("low", "mid", "catnap_cli")
+with open(os.path.join(top, "calls"), "a") as file:
+    file.write(" ".join(words[:2]) + "\\n")
+if words[:2] == ["all", "check"]:
+    bad = set()
+    for crate in crates:
+        time.sleep({slow})
+        with open(os.path.join(top, "crates", crate, "src", "lib.rt")) as file:
+            if "BAD" in file.read():
+                bad.add(crate)
+        print(f"== {{crate}}\\n" + (f"what is wrong in {{crate}}" if crate in bad else "proved=yes"), flush=True)
+    print("== summary", *(f"{{crate}}: " + ("failed (1)" if crate in bad else "ok") for crate in crates), sep="\\n")
+    sys.exit(1 if bad else 0)
+if words == ["run"]:
+    os.makedirs("out", exist_ok=True)
+    with open("out/catnap_cli", "w") as file:
+        file.write("#!/bin/sh\\n[ $# = 0 ] && {{ echo fault usage; exit 2; }}\\necho ran $*\\n")
+    os.chmod("out/catnap_cli", 0o755)
+    open("out/catnap_cli.stamp", "w").close()
+    print("fault usage")
+    sys.exit(2)
+print("tried", *words[words.index("--") + 1 :])
+"""
+
+
+class Launched:
+    """A copy of the launcher beside three small crates, and an rt that notes its calls."""
+
+    def __init__(self, folder, slow=0.0):
+        self.top, self.bin = folder, os.path.join(folder, "bin")
+        shutil.copy(os.path.join(TOP, "catnap"), folder)
+        for crate in ("low", "mid", "catnap_cli"):
+            os.makedirs(os.path.join(folder, "crates", crate, "src"))
+            self.edit(crate, "as it was\n")
+        write(folder, "crates.txt", "low:\nmid: low  # a remark\ncatnap_cli: mid low\n")
+        os.makedirs(self.bin)
+        os.chmod(write(self.bin, "rt", FAKE_RT.format(python=sys.executable, top=folder, slow=slow)), 0o755)
+
+    def edit(self, crate, text):
+        write(os.path.join(self.top, "crates", crate, "src"), "lib.rt", text)
+
+    def begin(self, *words):
+        env = {**os.environ, "PATH": f"{self.bin}:{os.environ['PATH']}"}
+        return subprocess.Popen([sys.executable, os.path.join(self.top, "catnap"), *words], env=env, stdout=subprocess.PIPE, stderr=subprocess.PIPE, text=True, start_new_session=True)
+
+    def call(self, *words):
+        """The status, the output and the messages of a call, and the calls of rt in it."""
+        path = os.path.join(self.top, "calls")
+        write(self.top, "calls", "")
+        child = self.begin(*words)
+        out, said = child.communicate(timeout=SECONDS)
+        assert "Traceback" not in said, said
+        return child.returncode, out, said, read(path).splitlines()
+
+
+def test_launcher_builds_when_contents_changed(program, folder):
+    made, whole = Launched(folder), ["all check", "run"]
+    status, out, said, calls = made.call("list", "x.cat")
+    same((status, out, calls), (0, "ran list x.cat\n", whole))
+    same(len(re.findall(r"^catnap: \d of 3 crates done", said, re.M)), 3)
+    same(made.call("a"), (0, "ran a\n", "", []))
+    lib = os.path.join(folder, "crates", "low", "src", "lib.rt")
+    os.utime(lib)  # as a change of branch and back does
+    made.edit("mid", "another text\n")
+    made.edit("mid", "as it was\n")
+    same(made.call("a"), (0, "ran a\n", "", []))
+    made.edit("mid", "another text\n")
+    same(made.call("a")[3], whole)
+    write(os.path.join(folder, "crates", "low", "src"), "more.rt", "")
+    same(made.call("a")[3], whole)
+    # a program that is not whole is not run
+    write(os.path.join(folder, "crates", "catnap_cli", "out"), "catnap_cli", "#!/bin/sh\n")
+    same(made.call("a")[1], "ran a\n")
+    # what rt has built by itself after the last edit, as the gate does, is only looked at
+    os.remove(os.path.join(folder, "crates", "catnap_cli", "out", "catnap_cli.made"))
+    same(made.call("a")[3], ["run"])
+
+
+def test_launcher_says_what_is_not_proved(program, folder):
+    made = Launched(folder)
+    made.call("a")
+    made.edit("mid", "BAD\n")
+    for _ in range(2):
+        status, out, said, calls = made.call("a")
+        same((status, out, calls), (1, "", ["all check"]))
+        assert "what is wrong in mid" in said and "mid: failed (1)" in said and "--unproved" in said, said
+    made.edit("mid", "good again\n")
+    same(made.call("a")[:2], (0, "ran a\n"))
+
+
+def test_launcher_is_stopped_and_goes_on(program, folder):
+    made = Launched(folder, slow=0.4)
+    for number, status in ((signal.SIGINT, 130), (signal.SIGTERM, 143)):
+        child = made.begin("a")
+        line = child.stderr.readline() + child.stderr.readline()
+        assert "1 of 3 crates done" in line, line
+        os.killpg(child.pid, number) if number == signal.SIGINT else child.send_signal(number)
+        out, said = child.communicate(timeout=SECONDS)
+        same((child.returncode, out, "Traceback" in said), (status, "", False))
+        assert not os.path.exists(os.path.join(folder, "crates", "catnap_cli", "out", "catnap_cli"))
+    same(made.call("a")[:2], (0, "ran a\n"))
+
+
+def test_launcher_words(program, folder):
+    made = Launched(folder)
+    status, out, said, calls = made.call("--unproved", "run", "x.cat", "5")
+    same((status, out, said.count("unproved")), (0, "tried run x.cat 5\n", 1))
+    assert "./catnap --unproved" in made.call("--help")[1]
+    os.remove(os.path.join(made.bin, "rt"))
+    env = {**os.environ, "PATH": made.bin}
+    run = subprocess.run([sys.executable, os.path.join(folder, "catnap"), "a"], env=env, capture_output=True, text=True)
+    refused(run, "'rt'", "PATH")
 
 
 def main():
