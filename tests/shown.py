@@ -26,7 +26,7 @@ import tempfile
 
 TOP = os.path.dirname(os.path.dirname(os.path.abspath(__file__)))
 SECONDS = 300
-RUN = ("./catnap ", "tools/", "sed ", "cat ", "grep ", "head ", "tail ", "editors/")
+RUN = ("./catnap ", "tools/", "for ", "sed ", "cat ", "grep ", "head ", "tail ", "editors/")
 TESTS = "./run-tests"
 GENERAL = re.compile(r"(?<![$\w])[A-Z]{3,}\b")  # a word in capitals stands for some file or number
 GAP = ".."
