@@ -1,16 +1,17 @@
 #!/usr/bin/env python3
-"""Tests the scripts of tools/ with a built program, and the launcher ./catnap with an rt that only pretends to prove. No
-display is needed.
+"""Tests tools/ and editors/ with a built program, and the launcher ./catnap with an rt that only pretends to prove. No display
+is needed.
 
 usage: tests/tools.py PROGRAM
 
-Where matplotlib or GNU Parallel is missing, what needs it is skipped, and a line says so. The last line is
+Where matplotlib, GNU Parallel or Vim is missing, what needs it is skipped, and a line says so. The last line is
 'tools: N passed, M failed, K skipped'.
 """
 import csv
 import functools
 import importlib.machinery
 import importlib.util
+import json
 import os
 import random
 import re
@@ -336,6 +337,37 @@ def test_lint(program, folder):
         answering = write(folder, "answering", f'#!/bin/sh\necho "{line}"\nexit 5\n')
         os.chmod(answering, 0o755)
         same(tool("lint", bad, "--program", answering).stdout, f"{bad}:{place}: error: {line.split()[2]}\n")
+
+
+# editors
+
+
+def test_editors_know_the_language(program, folder):
+    keywords = set(re.search(r"^\| keyword \| one of `([a-z ]+)` \|$", read(TOP, "docs", "LANGUAGE.md"), re.M)[1].split())
+    vim = {word for line in re.findall(r"^syntax keyword catnap(?!Todo)\w+ (.*)$", read(TOP, "editors", "vim", "syntax", "catnap.vim"), re.M) for word in line.split()}
+    same(vim, keywords)
+    folder = os.path.join(TOP, "editors", "vscode")
+    grammar = json.loads(read(folder, "syntaxes", "catnap.tmLanguage.json"))
+    for word in keywords:
+        names = [rule["name"] for rule in grammar["patterns"] if "name" in rule and re.fullmatch(rule["match"], word)]
+        assert names and not names[0].startswith("invalid"), word
+    json.loads(read(folder, "language-configuration.json"))
+    pattern = json.loads(read(folder, "package.json"))["contributes"]["problemMatchers"][0]["pattern"]
+    found = re.fullmatch(pattern["regexp"], "a b/node.cat:12:5: error: BadByte")
+    same([found[pattern[name]] for name in ("file", "line", "column", "severity", "message")], ["a b/node.cat", "12", "5", "error", "BadByte"])
+
+
+def test_vim_jumps_to_the_byte(program, folder):
+    if not shutil.which("vim"):
+        raise Skip("vim")
+    source = write(folder, "a node.cat", "int x = 0;\nint y = $;\n")
+    answering = write(folder, "answering", "#!/bin/sh\necho fault source BadByte 19\nexit 5\n")
+    os.chmod(answering, 0o755)
+    out = os.path.join(folder, "out")
+    steps = [f"set runtimepath+={TOP}/editors/vim", "filetype plugin indent on", "syntax on", f"edit {source.replace(' ', chr(92) + ' ')}", f"let &makeprg .= ' --program {answering}'"]
+    steps += ["silent make", f"call writefile([&filetype, synIDattr(synID(1, 1, 1), 'name'), line('.') . ' ' . col('.')], '{out}')", "qa!"]
+    subprocess.run(["vim", "-e", "-s", "-u", "NONE", "-i", "NONE", "-N", *(part for step in steps for part in ("-c", step))], capture_output=True, timeout=SECONDS, stdin=subprocess.DEVNULL)
+    same(read(out), "catnap\ncatnapType\n2 9\n")
 
 
 # ./catnap
