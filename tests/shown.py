@@ -13,7 +13,8 @@ A fenced block whose first line names a file of the repository behind its langua
 that file, or lines of it that follow each other; '..' stands for any lines there too.
 
 The pages are README.md, docs/GUIDE.md, docs/SWEEPS.md and others that show commands; they run in a copy of the examples
-and tools, where ./catnap is PROGRAM. What needs a package that is missing is skipped, and said so. The last line is
+and tools, where ./catnap is PROGRAM. Pictures are skipped where matplotlib is missing, and a line says so; where GNU Parallel is
+missing a sweep runs job after job. The last line is
 'shown: N as shown, M not, K skipped'.
 """
 import glob
@@ -100,14 +101,17 @@ def python_with(package):
 def lacks(command):
     """The package that a command needs and this machine lacks."""
     draws = "tools/picture" in command or "tools/sweep plot" in command
-    if draws and not python_with("matplotlib"):
-        return "matplotlib"
-    if "tools/sweep run" in command and not shutil.which("parallel"):
-        return "GNU parallel"
-    return None
+    return "matplotlib" if draws and not python_with("matplotlib") else None
+
+
+def without_parallel(command):
+    """Where GNU Parallel is missing a sweep is run by slices, which gathers the same."""
+    return re.sub(r"tools/sweep run (\S+)", r"tools/sweep slice \1 0 1 && tools/sweep collect \1", command)
 
 
 def fault_of(commands, shown, folder):
+    if not shutil.which("parallel"):
+        commands = [without_parallel(command) for command in commands]
     script = "set -e\n" + "\n".join(without_remark(line) for line in commands[:-1])
     script += "\nset +e\n" + without_remark(commands[-1]) + "\n"
     run = subprocess.run(["sh", "-c", script], cwd=folder, capture_output=True, text=True, timeout=SECONDS)
@@ -122,14 +126,16 @@ def fault_of(commands, shown, folder):
 
 
 def copied(program, folder):
-    """Makes the folder in which commands run."""
+    """Makes the folder in which commands run: there the launcher and the program that it has built are PROGRAM."""
     for name in ("examples", "tools", "editors", "docs"):
         if os.path.isdir(os.path.join(TOP, name)):
             shutil.copytree(os.path.join(TOP, name), os.path.join(folder, name))
-    path = os.path.join(folder, "catnap")
-    with open(path, "w") as file:
-        file.write(f'#!/bin/sh\n[ "$1" = --unproved ] && shift\nexec {program} "$@"\n')
-    os.chmod(path, 0o755)
+    built = os.path.join(folder, "crates", "catnap_cli", "out")
+    os.makedirs(built)
+    for path in (os.path.join(folder, "catnap"), os.path.join(built, "catnap_cli")):
+        with open(path, "w") as file:
+            file.write(f'#!/bin/sh\n[ "$1" = --unproved ] && shift\nexec {program} "$@"\n')
+        os.chmod(path, 0o755)
 
 
 def main():

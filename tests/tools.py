@@ -235,6 +235,15 @@ def test_picture_refuses(program, folder):
     assert not os.path.exists(out)
 
 
+def test_picture_of_the_readme_is_that_of_its_node(program, folder):
+    python, out = drawing_python(), os.path.join(folder, "node.svg")
+    files = [os.path.join(EXAMPLES, name) for name in ("node.cat", "node.toml", "node-trace.csv", "node-arrivals.csv", "node-failures.csv")]
+    report = write(folder, "report.txt", subprocess.run([program, "replay", *files], capture_output=True, text=True).stdout)
+    words = [part for pair in zip(("--source", "--trace", "--arrivals", "--failures"), [files[0], *files[2:]]) for part in pair]
+    ok(tool("picture", report, *words, "-o", out, python=python))
+    same(texts_of(os.path.join(TOP, "docs", "pictures", "node.svg")), texts_of(out))
+
+
 def test_missing_package_is_named(program, folder):
     write(folder, "matplotlib.py", "raise ImportError\n")
     run = subprocess.run([sys.executable, os.path.join(TOOLS, "picture"), *example_words("soil"), "-o", "x.svg"], env={**os.environ, "PYTHONPATH": folder, "CATNAP_TOOLS_TRIED_SYSTEM_PYTHON": "1"}, capture_output=True, text=True)
