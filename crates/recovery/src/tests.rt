@@ -1,9 +1,7 @@
 ghost use Rattle.std.specs.Prelude.{◌≡◌, ◌≤◌, ◌<◌, length};
 
 use super::*;
-use cat_program::{Parts, Program};
 use checkpoint_slots::{Slot, selected, well_formed};
-use cn_base::List;
 use nv_memory::{AnyBoard, Board, Cost, Device, Fill, Layout};
 use std::alloc::Global;
 use std::test::Fail;
@@ -37,38 +35,17 @@ fn device() -> Device {
     }
 }
 
-fn layout(words: u16, tasks: u8) -> Layout
-    requires words { words ≤ 1024 }
-    requires tasks { tasks ≤ 16 }
-    ensures words { result.words ≡ words }
-    ensures tasks { result.tasks ≡ tasks }
+fn layout() -> Layout
+    ensures words { result.words ≡ 1 }
+    ensures tasks { result.tasks ≡ 1 }
     ensures events { result.events ≡ 0 }
 {
     Layout {
-        words,
-        tasks,
+        words: 1,
+        tasks: 1,
         events: 0,
         log: 1,
     }
-}
-
-// The program that does nothing.
-fn nothing(alloc: Global) -> Program
-    ensures words { length result.words ≡ 0 }
-    ensures tasks { length result.tasks ≡ 0 }
-    ensures events { length result.events ≡ 0 }
-{
-    Program::of(Parts {
-        variables: List::of(Vec::new(alloc)),
-        words: List::of(Vec::new(alloc)),
-        names: List::of(Vec::new(alloc)),
-        started: List::of(Vec::new(alloc)),
-        tasks: List::of(Vec::new(alloc)),
-        headers: List::of(Vec::new(alloc)),
-        events: List::of(Vec::new(alloc)),
-        mentions: List::of(Vec::new(alloc)),
-        blocks: List::of(Vec::new(alloc)),
-    })
 }
 
 // What the committed slot of an image says.
@@ -85,7 +62,7 @@ struct Found {
 fn recovered(alloc: Global, image: Vec<u8>) -> Result<Found, Fail>
     requires { length image.items < 4294967296 }
 {
-    let layout = layout(1, 1);
+    let layout = layout();
     let Ok(board) = AnyBoard::new(alloc, device(), 10, image, Vec::new(alloc)) else {
         return Err("no memory".into());
     };
@@ -123,19 +100,5 @@ fn the_selected_slot_is_recovered(rt: HostRuntime) -> Result<(), Fail> {
     assert!(rt; (found.selected, found.len, found.steps) == (1, 1, 46));
     assert!(rt; found.pc == Some(9));
     assert!(rt; (found.word, found.post) == (-2, 2));
-    Ok(())
-}
-
-#[test]
-fn the_first_image_has_no_place(rt: HostRuntime) -> Result<(), Fail> {
-    let alloc = rt.alloc();
-    let Ok(image) = fresh_image(alloc, &nothing(alloc), &layout(0, 0)) else {
-        return Err("no memory".into());
-    };
-    assert_eq!(rt; image.len(), 208);
-    let ones = [
-        image[71], image[72], image[73], image[74], image[75], image[76],
-    ];
-    assert!(rt; ones == [0x00, 0xff, 0xff, 0xff, 0xff, 0x00]);
     Ok(())
 }
