@@ -12,7 +12,7 @@ import subprocess
 import sys
 
 EXAMPLES = os.path.join(os.path.dirname(os.path.dirname(os.path.abspath(__file__))), "examples")
-SECONDS = 120
+SECONDS = 600  # a machine may be busy
 
 
 def fault_of(program, name):

@@ -26,7 +26,7 @@ import sys
 import tempfile
 
 TOP = os.path.dirname(os.path.dirname(os.path.abspath(__file__)))
-SECONDS = 300
+SECONDS = 900  # a machine may be busy
 RUN = ("./catnap ", "tools/", "for ", "sed ", "cat ", "grep ", "head ", "tail ", "editors/")
 TESTS = "./run-tests"
 GENERAL = re.compile(r"(?<![$\w])[A-Z]{3,}\b")  # a word in capitals stands for some file or number

@@ -31,7 +31,7 @@ def save(figure, path, tool):
     if ending not in ("svg", "png", "pdf"):
         print(f"{tool}: the name of the picture has to end in .svg, .png or .pdf, and not as {path!r}", file=sys.stderr)
         sys.exit(1)
-    metadata = {"svg": {"Date": None}, "pdf": {"CreationDate": None}, "png": {}}[ending]
+    metadata = {"svg": dict.fromkeys(("Date", "Creator", "Format", "Type")), "pdf": {"CreationDate": None}, "png": {}}[ending]
     try:
         figure.savefig(path, format=ending, metadata=metadata, dpi=110)
     except OSError as error:
