@@ -1,8 +1,7 @@
 ghost use Rattle.std.specs.Prelude.{◌≤◌};
 
 use super::*;
-use cat_program::{LogEntry, Parts, Program};
-use cn_base::List;
+use cat_program::LogEntry;
 use nv_memory::{Answer, AnyBoard, Board, Cost, Device, Fill, Layout};
 use std::alloc::Global;
 use std::test::Fail;
@@ -93,48 +92,5 @@ fn entries_are_spelled(rt: HostRuntime) -> Result<(), Fail> {
         assert!(rt; at < board.size());
         assert_eq!(rt; board.read(at), spelled[k as usize]);
     }
-    Ok(())
-}
-
-// The program that does nothing.
-fn nothing(alloc: Global) -> Program {
-    Program::of(Parts {
-        variables: List::of(Vec::new(alloc)),
-        words: List::of(Vec::new(alloc)),
-        names: List::of(Vec::new(alloc)),
-        started: List::of(Vec::new(alloc)),
-        tasks: List::of(Vec::new(alloc)),
-        headers: List::of(Vec::new(alloc)),
-        events: List::of(Vec::new(alloc)),
-        mentions: List::of(Vec::new(alloc)),
-        blocks: List::of(Vec::new(alloc)),
-    })
-}
-
-// Reads a record where the layout has it.
-fn found(board: &AnyBoard, layout: &Layout, program: &Program, place: u32) -> Option<LogEntry> {
-    if board.size() < layout.size() || place >= layout.log {
-        return None;
-    }
-    entry_at(board, layout, program, place)
-}
-
-#[test]
-fn entries_are_read(rt: HostRuntime) -> Result<(), Fail> {
-    let alloc = rt.alloc();
-    let mut image = vec![in alloc; 0u8; 224]?;
-    image[192] = 0x01;
-    image[193] = 0x02;
-    image[196] = 0x17;
-    let Ok(board) = AnyBoard::new(alloc, device(), 10, image, Vec::new(alloc)) else {
-        return Err("no memory".into());
-    };
-    let program = nothing(alloc);
-    let out = LogEntry::Out {
-        channel: 2,
-        value: 23,
-    };
-    assert!(rt; found(&board, &layout(), &program, 0) == Some(out));
-    assert!(rt; found(&board, &layout(), &program, 1) == None);
     Ok(())
 }
