@@ -1,6 +1,6 @@
 //! Where the pieces of a source begin: one walk along the tree and its tokens.
 
-ghost use Rattle.std.specs.Prelude.{◌≡◌, ◌<◌, ◌^◌, ◌++◌, ◌∷◌, [], length, map, IfOk, OnOk, List};
+ghost use Rattle.std.specs.Prelude.{◌≡◌, ◌-◌, ◌<◌, ◌^◌, ◌++◌, ◌∷◌, [], length, map, IfOk, OnOk, List};
 ghost use Rattle.cat_conditions.specs.Plain.{term_of, further_of, furthers_of, action_of, block_of};
 ghost use Rattle.cat_conditions.specs.Pieces.{pieces, items_pieces};
 ghost use Rattle.cat_places.specs.Starts.{IsTreeOf, AreStarts, first_tokens};
@@ -259,6 +259,15 @@ fn items(cursor: &mut Cursor<'_>, found: &mut Vec<u32>, items: &[Item]) -> Resul
     Ok(())
 }
 
+/// How many tokens stand before a place, of which it is known how many are left there, among so many.
+fn count_from_front(lefts: &mut [u32], total: u32)
+    ensures { lefts.new ≡ map (λ left. total - left) lefts.old }
+{
+    for left in lefts.iter_mut() {
+        *left = total.saturating_sub(*left);
+    }
+}
+
 /// The first token of each piece of the tree, as a count of the tokens before it: of its items, statements
 /// and expressions, in the order in which these tokens stand, an outer piece before an inner one that begins
 /// with the same token. An expression in parentheses begins behind the innermost pair around it.
@@ -275,9 +284,7 @@ pub fn starts(alloc: Global, tokens: &[Token], tree: &Tree) -> Result<Vec<u32>, 
     let mut cursor = Cursor::new(tokens);
     let total = cursor.left();
     items(&mut cursor, &mut found, tree.items.as_slice())?;
-    for left in &mut found {
-        *left = total.saturating_sub(*left);
-    }
+    count_from_front(found.as_mut_slice(), total);
     Ok(found)
 }
 

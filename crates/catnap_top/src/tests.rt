@@ -68,15 +68,15 @@ fn refuses_sources(rt: HostRuntime) -> Result<(), Fail> {
     for (source, text) in [
         (
             "task t { out 256, 1; } start t;",
-            "fault source BadNumber\n",
+            "fault source BadNumber 9\n",
         ),
-        ("task t { x = 1; } start t;", "fault source Unknown\n"),
-        ("task t { } start u;", "fault source Unknown\n"),
-        ("int t = 0; task t { } start t;", "fault source Twice\n"),
-        ("int x = 0; int x = 1;", "fault source Twice\n"),
-        ("int x = 2147483648;", "fault source IntTooLarge\n"),
-        ("int x = 0", "fault source Syntax\n"),
-        ("int $", "fault source BadByte\n"),
+        ("task t { x = 1; } start t;", "fault source Unknown 9\n"),
+        ("task t { } start u;", "fault source Unknown 11\n"),
+        ("int t = 0; task t { } start t;", "fault source Twice 11\n"),
+        ("int x = 0; int x = 1;", "fault source Twice 11\n"),
+        ("int x = 2147483648;", "fault source IntTooLarge 8\n"),
+        ("int x = 0", "fault source Syntax 9\n"),
+        ("int $", "fault source BadByte 4\n"),
     ] {
         let got = get(rt.alloc(), words.as_slice(), source.as_bytes(), 100)?;
         assert_eq!(rt; got.status.number(), 5, "{source}");
@@ -135,7 +135,7 @@ fn lists_code(rt: HostRuntime) -> Result<(), Fail> {
     for (source, status, text) in [
         (S1, 0, listing),
         ("", 0, ""),
-        ("start t;", 5, "fault source Unknown\n"),
+        ("start t;", 5, "fault source Unknown 0\n"),
     ] {
         let got = get(rt.alloc(), words.as_slice(), source.as_bytes(), 200)?;
         assert_eq!(rt; got.status.number(), status, "{source}");
@@ -173,7 +173,7 @@ fn looks_at_the_files_of_a_replay_in_order(rt: HostRuntime) -> Result<(), Fail> 
     let fails = "tick,fill\n5,00\n";
     for (files, text) in [
         ([S1, profile, trace, arrivals, fails], ""),
-        (["$", "", "", "", ""], "fault source BadByte\n"),
+        (["$", "", "", "", ""], "fault source BadByte 0\n"),
         ([S1, "", "", "", ""], "fault device key cap\n"),
         ([S1, profile, "", "", ""], "fault trace 0 Header\n"),
         ([S1, profile, trace, "", ""], "fault arrivals 0 Header\n"),
