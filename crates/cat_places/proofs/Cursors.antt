@@ -1,5 +1,5 @@
 -- Steps of a cursor over kinds of tokens.
-use Rattle.std.proofs.Common.{◌≡◌, ℕ, zero, suc, ◌+◌, ◌-◌, ◌≤◌, ◌<◌, min, Bool, true, false, List, [], ◌∷◌, length, map, refl, sym, ap, ◌∙◌, arith}
+use Rattle.std.proofs.Common.{◌≡◌, ℕ, zero, suc, ◌+◌, ◌-◌, ◌<◌, min, true, false, List, [], ◌∷◌, length, map, refl, sym, ap, ◌∙◌, arith}
 use Rattle.std.specs.Prelude.{drop, slice_range}
 use Rattle.std.proofs.lemmas.List.{drop_min, drop-map, length-drop}
 use Rattle.std.proofs.Math.Seq.{take-length}

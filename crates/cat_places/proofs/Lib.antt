@@ -1,7 +1,8 @@
 pub mod Symbols
-pub mod Kinds
+pub mod TokenKinds
 pub mod Walked
 pub mod Cursors
 pub mod WalkedItems
 pub mod Counted
 pub mod Going
+pub mod Started

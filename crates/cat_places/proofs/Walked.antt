@@ -1,5 +1,5 @@
 -- A walk along a tree's own tokens finds where its pieces begin, by whatever derivation.
-use Rattle.std.proofs.Common.{◌≡◌, ℕ, zero, suc, ◌+◌, ◌-◌, true, false, List, [], ◌∷◌, ◌++◌, length, map, Option, Some, None, refl, sym, ap, ◌∙◌, append_assoc, arith}
+use Rattle.std.proofs.Common.{◌≡◌, ℕ, zero, suc, ◌+◌, ◌-◌, true, false, List, [], ◌∷◌, ◌++◌, length, map, Some, refl, ap, ◌∙◌, arith}
 use Rattle.std.specs.Prelude.{drop}
 use native.Mathlib.Numerals.{unary_clauses}
 use Rattle.std.proofs.lemmas.List.{length-map}
@@ -13,14 +13,13 @@ use Rattle.cn_base.specs.declared.tree.Expr.{Expr}
 use Rattle.cn_base.specs.declared.tree.Expr.TheVariants as expr
 use Rattle.cn_base.specs.declared.tree.Sign.{Sign}
 use Rattle.cn_base.specs.declared.tree.Comparison.{Comparison}
-use Rattle.cn_base.specs.declared.tree.Further.{Further, out-Further, out-roll-Further}
+use Rattle.cn_base.specs.declared.tree.Further.{Further, out-roll-Further}
 use Rattle.cn_base.specs.declared.tree.Operator.{Operator}
 use Rattle.cat_conditions.specs.Plain as plain
 use Rattle.cat_conditions.specs.Plain.{Term, term_of, further_of, furthers_of}
 use Rattle.cat_conditions.specs.PlainKinds.{ExpressionKinds}
 use Rattle.cat_syntax.specs.declared.level.Level.{Level}
-use Rattle.cat_syntax.specs.declared.level.Level.TheVariants as level
-use Rattle.cat_syntax.specs.Levels.{operator_of, comparison_of, sign_of}
+use Rattle.cat_syntax.specs.Levels.{sign_of}
 use Rattle.cat_syntax.specs.Depth.{change, keeps}
 use Rattle.cat_syntax.specs.Grammar as g
 use Rattle.cat_syntax.specs.Grammar.{further, chained, IsChain, AreFurther, IsOperand, IsComparison, IsUnary, IsPrimary}

@@ -1,23 +1,20 @@
 -- The same of statements, items and programs.
-use Rattle.std.proofs.Common.{◌≡◌, ℕ, zero, suc, ◌+◌, ◌*◌, ◌-◌, List, [], ◌∷◌, ◌++◌, length, map, Option, Some, None, refl, sym, ap, ◌∙◌, arith}
+use Rattle.std.proofs.Common.{◌≡◌, ℕ, suc, ◌+◌, ◌*◌, ◌-◌, List, ◌∷◌, length, map, refl, sym, ap, ◌∙◌, arith}
 use Rattle.std.specs.Prelude.{drop}
 use Rattle.std.proofs.lemmas.List.{length-map}
-use Rattle.cat_tokens.specs.declared.token.Keyword.TheVariants as k
-use Rattle.cat_tokens.specs.declared.token.Symbol.TheVariants as s
 use Rattle.cat_tokens.specs.declared.token.What.{What}
-use Rattle.cat_tokens.specs.Lexemes.{Lexeme, kind, symbol, name, number, keyword}
-use Rattle.cn_base.specs.declared.tree.Expr.{Expr}
+use Rattle.cat_tokens.specs.Lexemes.{Lexeme, kind}
 use Rattle.cn_base.specs.declared.tree.Stmt.{Stmt}
 use Rattle.cn_base.specs.declared.tree.Timing.{Timing}
 use Rattle.cn_base.specs.declared.tree.Item.{Item}
-use Rattle.cat_conditions.specs.Plain.{term_of, action_of, block_of, else_block}
+use Rattle.cat_conditions.specs.Plain.{action_of, block_of}
 use Rattle.cat_conditions.specs.PlainKinds.{ExpressionKinds, StatementKinds}
 use Rattle.cat_syntax.specs.Grammar as g
 use Rattle.cat_syntax.specs.Grammar.{IsBlock, AreStatements, IsElse, IsStatement, IsTiming, AreVersions, AreNames, IsItem, IsProgram}
 use Rattle.cat_places.specs.Starts as st
-use Rattle.cat_places.specs.Walk.{enclosed, lefts, after_block, block_lefts, after_actions, actions_lefts, after_action, inner_lefts, after_else, else_lefts, after_versions, versions_lefts, timing_tokens, after_item, item_lefts, items_lefts}
+use Rattle.cat_places.specs.Walk.{after_block, block_lefts, after_actions, actions_lefts, after_action, inner_lefts, after_versions, versions_lefts, timing_tokens, after_item, item_lefts, items_lefts}
 use Rattle.cat_syntax.specs.Reader.{Lexemes}
-use Rattle.cat_places.proofs.Walked.{Found, found_rest, found_lefts, chain_found}
+use Rattle.cat_places.proofs.Walked.{found_rest, found_lefts, chain_found}
 
 timing_walk : {ts rest : Lexemes} {t : Timing} → IsTiming ts t rest → (w v : What) → drop (3 + timing_tokens t) (w ∷ v ∷ map kind ts) ≡ drop 1 (map kind rest)
 timing_walk g.every w v = refl

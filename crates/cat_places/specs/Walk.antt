@@ -1,7 +1,7 @@
 -- The tokens of a piece that is known: where it begins among them, and what is left behind it. Of the tokens
 -- only the kind counts.
 use denote.Enum.Bare.{sameb}
-use Rattle.std.specs.Prelude.{ℕ, zero, suc, ◌+◌, ◌*◌, ◌-◌, Bool, true, false, List, [], ◌∷◌, ◌++◌, length, drop}
+use Rattle.std.specs.Prelude.{ℕ, suc, ◌+◌, ◌*◌, ◌-◌, Bool, true, false, List, [], ◌∷◌, ◌++◌, length, drop}
 use Rattle.cat_tokens.specs.declared.token.Symbol.{Symbol}
 use Rattle.cat_tokens.specs.declared.token.Symbol.TheVariants as s
 use Rattle.cat_tokens.specs.contracts.token.Symbol as symbols

@@ -1,6 +1,6 @@
-use Rattle.std.proofs.Common.{map, refl, ap, sym, ◌∙◌, append_assoc}
-use Rattle.cat_conditions.specs.Plain.{term_of, further_of, furthers_of}
-use Rattle.cat_places.specs.Walk.{after_furthers, furthers_lefts, lefts}
+use Rattle.std.proofs.Common.{refl, ◌∙◌, append_assoc}
+use Rattle.cat_conditions.specs.Plain.{term_of}
+use Rattle.cat_places.specs.Walk.{lefts}
 use Rattle.cat_places.proofs.Going.{goes_first, goes_next, goes_left, goes_found, item_next, set_first}
 use Rattle.cat_places.proofs.places.+expr.Goals as goal
 

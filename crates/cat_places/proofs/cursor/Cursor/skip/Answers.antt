@@ -1,4 +1,3 @@
-use Rattle.std.proofs.Common.{length}
 use Rattle.cat_places.proofs.Cursors.{skipped}
 use Rattle.cat_places.proofs.cursor.Cursor.skip.Goals as goal
 
