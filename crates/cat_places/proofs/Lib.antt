@@ -6,3 +6,4 @@ pub mod WalkedItems
 pub mod Counted
 pub mod Going
 pub mod Started
+pub mod Ordered

@@ -1,7 +1,7 @@
 -- The first token of each piece of a source: of its items, statements and expressions, an outer one before
 -- those that stand in it. A piece begins with the first token that its derivation takes. Parentheses leave no
 -- piece of their own, so an expression in parentheses begins behind the innermost pair around all of it.
-use Rattle.std.specs.Prelude.{◌≡◌, ℕ, suc, ◌-◌, List, [], ◌∷◌, ◌++◌, length, map}
+use Rattle.std.specs.Prelude.{◌≡◌, ℕ, suc, ◌-◌, ◌<◌, ◌≤◌, List, [], ◌∷◌, ◌++◌, length, map}
 use Rattle.cat_tokens.specs.declared.token.Token.{Token}
 use Rattle.cat_tokens.specs.Lexemes.{Lexeme, lexemes}
 use Rattle.cn_base.specs.declared.tree.Expr.{Expr}
@@ -88,6 +88,11 @@ program_lefts (g.items {ts = ts} d ds) = length ts ∷ (item_lefts d ++ program_
 -- the place of each piece's first token, counted from the first token of all
 abbrev pub first_tokens : {ts : List Lexeme} {xs : List Item} → IsProgram ts xs → List ℕ
 first_tokens {ts} d = map (λ left. length ts - left) (program_lefts d)
+
+-- from one place on, none before the one in front of it, and all before another place
+abbrev pub AreInOrder : ℕ → List ℕ → ℕ → Type 0
+AreInOrder from [] upto = Unit {0}
+AreInOrder from (n ∷ ns) upto = (from ≤ n) × (n < upto) × AreInOrder n ns upto
 
 -- the tokens of some text that spell the tree of these items
 abbrev pub IsTreeOf : List Token → List Item → Type 0

@@ -3,7 +3,7 @@
 ghost use Rattle.std.specs.Prelude.{◌≡◌, ◌-◌, ◌<◌, ◌^◌, ◌++◌, ◌∷◌, [], length, map, IfOk, OnOk, List};
 ghost use Rattle.cat_conditions.specs.Plain.{term_of, further_of, furthers_of, action_of, block_of};
 ghost use Rattle.cat_conditions.specs.Pieces.{pieces, items_pieces};
-ghost use Rattle.cat_places.specs.Starts.{IsTreeOf, AreStarts, first_tokens};
+ghost use Rattle.cat_places.specs.Starts.{IsTreeOf, AreStarts, AreInOrder, first_tokens};
 ghost use Rattle.cat_syntax.specs.Grammar.{IsProgram};
 ghost use Rattle.cat_tokens.specs.Lexemes.{Lexeme};
 ghost use Rattle.cn_base.specs.declared.tree.Item.{Item as AnItem};
@@ -288,11 +288,12 @@ pub fn starts(alloc: Global, tokens: &[Token], tree: &Tree) -> Result<Vec<u32>, 
     Ok(found)
 }
 
-/// A list of tokens and a tree have one list of first tokens, whatever the derivation, and it has one for each
-/// piece.
+/// A list of tokens and a tree have one list of first tokens, whatever the derivation. It has one for each piece, each is
+/// one of these tokens, and none stands before the one in front of it.
 pub fn one_starts()
     ensures same { (ts : List Lexeme) (tree : List AnItem) (d e : IsProgram ts tree) → first_tokens d ≡ first_tokens e }
     ensures one_each { (ts : List Lexeme) (tree : List AnItem) (d : IsProgram ts tree) → length (first_tokens d) ≡ length (items_pieces tree) }
+    ensures in_order { (ts : List Lexeme) (tree : List AnItem) (d : IsProgram ts tree) → AreInOrder 0 (first_tokens d) (length ts) }
 {
     plain_law();
 }

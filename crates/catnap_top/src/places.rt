@@ -60,7 +60,7 @@ pub fn byte_of_token(source: &[u8], tokens: &[Token], number: u32) -> u32
     requires { length source.now ≤ most_source }
     ensures { result ≡ spec.byte_of_token source.now tokens.now number }
 {
-    match tokens.get(number as usize) {
+    match tokens.get(number as usize).copied() {
         Some(token) => token.from,
         None => source.len() as u32,
     }
@@ -71,8 +71,8 @@ pub fn byte_of_piece(source: &[u8], tokens: &[Token], starts: &[u32], number: u3
     requires { length source.now ≤ most_source }
     ensures { result ≡ spec.byte_of_piece source.now tokens.now starts.now number }
 {
-    match starts.get(number as usize) {
-        Some(first) => byte_of_token(source, tokens, *first),
+    match starts.get(number as usize).copied() {
+        Some(first) => byte_of_token(source, tokens, first),
         None => source.len() as u32,
     }
 }

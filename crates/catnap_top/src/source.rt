@@ -67,7 +67,10 @@ pub fn program_of(alloc: Global, source: &[u8]) -> Result<Program, Stop>
     ensures { Looks (program_in source.now) result }
 {
     if source.len() > MOST_SOURCE {
-        return Err(stop(Some(SourceKind::TooLong), MOST_SOURCE as u32));
+        return Err(Stop::Refused(Fault::Source(SourceFault {
+            kind: SourceKind::TooLong,
+            place: MOST_SOURCE as u32,
+        })));
     }
     let found = match tokens(alloc, source) {
         Ok(found) => found,
