@@ -20,9 +20,9 @@ use cat_conditions::TypeFault;
 use cat_places::starts;
 use cat_program::Program;
 use cat_syntax::parse;
-use cat_syntax::tree::Tree;
 use cat_tokens::{Token, tokens};
 use cat_types::check;
+use cn_base::tree::Tree;
 use std::alloc::Global;
 
 /// The greatest source, in bytes.
