@@ -1,6 +1,6 @@
 //! Which byte of a source is named for what it is refused for.
 
-ghost use Rattle.std.specs.Prelude.{◌≡◌, ◌≤◌, length};
+ghost use Rattle.std.specs.Prelude.{◌≡◌, ◌≤◌, length, slice_get};
 ghost use Rattle.catnap_top.specs.Places as spec;
 ghost use Rattle.catnap_top.specs.Source.{most_source};
 
@@ -55,12 +55,26 @@ pub fn piece_named(fault: TypeFault) -> u32
     }
 }
 
+/// The token with this number, if there is one.
+fn token_at(tokens: &[Token], number: u32) -> Option<Token>
+    ensures { result ≡ slice_get tokens.now number }
+{
+    tokens.get(number as usize).copied()
+}
+
+/// The first token of the piece with this number, if there is one.
+fn start_at(starts: &[u32], number: u32) -> Option<u32>
+    ensures { result ≡ slice_get starts.now number }
+{
+    starts.get(number as usize).copied()
+}
+
 /// The first byte of the token with this number, or the length of the source behind the last one.
 pub fn byte_of_token(source: &[u8], tokens: &[Token], number: u32) -> u32
     requires { length source.now ≤ most_source }
     ensures { result ≡ spec.byte_of_token source.now tokens.now number }
 {
-    match tokens.get(number as usize).copied() {
+    match token_at(tokens, number) {
         Some(token) => token.from,
         None => source.len() as u32,
     }
@@ -71,7 +85,7 @@ pub fn byte_of_piece(source: &[u8], tokens: &[Token], starts: &[u32], number: u3
     requires { length source.now ≤ most_source }
     ensures { result ≡ spec.byte_of_piece source.now tokens.now starts.now number }
 {
-    match starts.get(number as usize).copied() {
+    match start_at(starts, number) {
         Some(first) => byte_of_token(source, tokens, first),
         None => source.len() as u32,
     }
