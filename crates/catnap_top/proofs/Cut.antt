@@ -46,17 +46,17 @@ by_front P file long h =
 -- ---- a source
 
 -- a source that long is refused either way
-refused_long : (file : List ℕ) (kind : SourceFault) → most_bytes < length file → most_bytes < length (front file)
-    → IsRefused (front file) kind → IsRefused file kind
-refused_long file kind lt more (too_long long e) = too_long (omega arith) e
-refused_long file kind lt more (no_tokens tokens fault le lexes e) = absurd (omega arith)
-refused_long file kind lt more (no_tree tokens fault le lexes is e) = absurd (omega arith)
-refused_long file kind lt more (unchecked tokens tree fault le lexes spelled is e) = absurd (omega arith)
+refused_long : (file : List ℕ) (refusal : SourceFault) → most_bytes < length file → most_bytes < length (front file)
+    → IsRefused (front file) refusal → IsRefused file refusal
+refused_long file refusal lt more (too_long long kind place) = too_long (omega arith) kind place
+refused_long file refusal lt more (no_tokens tokens fault le lexes kind place) = absurd (omega arith)
+refused_long file refusal lt more (no_tree tokens fault le lexes is kind place) = absurd (omega arith)
+refused_long file refusal lt more (unchecked tokens tree fault le lexes spelled is kind place) = absurd (omega arith)
 
 source_long : (file : List ℕ) (came : Result Checked SourceFault) → most_bytes < length file → most_bytes < length (front file)
     → IsSource (front file) came → IsSource file came
 source_long file (Ok p) lt more is = let le : length (front file) ≤ most_source = is.within in absurd (omega (arith, more, le))
-source_long file (Err kind) lt more is = refused_long file kind lt more is
+source_long file (Err refusal) lt more is = refused_long file refusal lt more is
 
 pub program_cut : (file : List ℕ) → Leads (program_in (front file)) (program_in file)
 program_cut file =

@@ -9,6 +9,7 @@ mod Refusing
 pub mod OneFault
 pub mod OneSource
 pub mod Looks
+pub mod Named
 pub mod Cut
 pub mod Own
 pub mod Programs

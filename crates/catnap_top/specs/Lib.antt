@@ -2,6 +2,7 @@ pub mod Answer
 pub mod Statuses
 pub mod Words
 pub mod Refusals
+pub mod Places
 pub mod Faults
 pub mod Look
 pub mod Alike

@@ -1,5 +1,5 @@
--- The kinds for which a source is refused, and their fault lines.
-use Rattle.std.specs.Prelude.{ℕ, List, [], ◌∷◌, Option, Some, None, codes}
+-- The kinds for which a source is refused, and the fault line: the kind, and the byte that is named for it.
+use Rattle.std.specs.Prelude.{ℕ, List, [], ◌∷◌, Option, Some, None, codes, decimal}
 use Rattle.cat_tokens.specs.declared.lexer.LexFault.{LexFault}
 use Rattle.cat_tokens.specs.declared.lexer.LexFault.TheVariants as token
 use Rattle.cat_syntax.specs.declared.fault.SyntaxFault.{SyntaxFault}
@@ -7,11 +7,12 @@ use Rattle.cat_syntax.specs.declared.fault.SyntaxFault.TheVariants as syntax
 use Rattle.cat_conditions.specs.declared.fault.TypeFault.{TypeFault}
 use Rattle.cat_conditions.specs.declared.fault.TypeFault.TheVariants as type
 use Rattle.catnap_top.specs.declared.refusal.SourceFault.{SourceFault}
-use Rattle.catnap_top.specs.declared.refusal.SourceFault.TheVariants as kind
+use Rattle.catnap_top.specs.declared.refusal.SourceKind.{SourceKind}
+use Rattle.catnap_top.specs.declared.refusal.SourceKind.TheVariants as kind
 use Rattle.catnap_top.specs.declared.status.Status.TheVariants.{BadSource}
 use Rattle.catnap_top.specs.Answer.{Answer, line}
 
-abbrev pub kind_name : SourceFault → List ℕ
+abbrev pub kind_name : SourceKind → List ℕ
 kind_name kind.TooLong = codes "TooLong"
 kind_name kind.BadByte = codes "BadByte"
 kind_name kind.IntTooLarge = codes "IntTooLarge"
@@ -36,21 +37,24 @@ kind_name kind.HandlerTooLong = codes "HandlerTooLong"
 kind_name kind.CodeTooLong = codes "CodeTooLong"
 
 abbrev pub refused : SourceFault → Answer
-refused fault = record { status = BadSource; text = line (codes "fault source " ∷ kind_name fault ∷ codes "\n" ∷ []) }
+refused fault = record {
+  status = BadSource;
+  text = line (codes "fault source " ∷ kind_name fault.kind ∷ codes " " ∷ decimal fault.place ∷ codes "\n" ∷ []);
+}
 
 -- want of memory is no fault of the source
-abbrev pub kind_of_token_fault : LexFault → Option SourceFault
+abbrev pub kind_of_token_fault : LexFault → Option SourceKind
 kind_of_token_fault token.NoMemory = None
 kind_of_token_fault (token.BadByte at) = Some kind.BadByte
 kind_of_token_fault (token.IntTooLarge at) = Some kind.IntTooLarge
 kind_of_token_fault (token.NameTooLong at) = Some kind.NameTooLong
 
-abbrev pub kind_of_syntax_fault : SyntaxFault → Option SourceFault
+abbrev pub kind_of_syntax_fault : SyntaxFault → Option SourceKind
 kind_of_syntax_fault syntax.NoMemory = None
 kind_of_syntax_fault (syntax.TooDeep at) = Some kind.TooDeep
 kind_of_syntax_fault (syntax.Syntax at) = Some kind.Syntax
 
-abbrev pub kind_of_type_fault : TypeFault → Option SourceFault
+abbrev pub kind_of_type_fault : TypeFault → Option SourceKind
 kind_of_type_fault type.NoMemory = None
 kind_of_type_fault (type.BadNumber at) = Some kind.BadNumber
 kind_of_type_fault (type.TooManyVars at) = Some kind.TooManyVars

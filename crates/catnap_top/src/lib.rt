@@ -9,6 +9,7 @@ mod headline;
 mod line;
 mod list;
 mod one;
+mod places;
 mod profile;
 mod reading;
 mod ready;

@@ -1,6 +1,6 @@
 //! Lines that are written by themselves.
 
-ghost use Rattle.std.specs.Prelude.{◌∷◌, [], codes};
+ghost use Rattle.std.specs.Prelude.{◌∷◌, [], codes, decimal};
 ghost use Rattle.cn_base.specs.Causes.{HasCause};
 ghost use Rattle.cn_base.specs.Writing.{Writes};
 ghost use Rattle.catnap_top.specs.Answer.{line, read_fault};
@@ -22,9 +22,9 @@ pub fn put_read_fault<K: Sink>(sink: &mut K, place: u32) -> Result<(), WriteFail
     )
 }
 
-/// Writes why a source is refused, by the name of the kind. Takes no memory.
-pub fn put_refusal<K: Sink>(sink: &mut K, name: &[u8]) -> Result<(), WriteFail>
-    ensures text { Writes (K.written sink.old) (K.written sink.new) (line (codes "fault source " ∷ name.now ∷ codes "\n" ∷ [])) result }
+/// Writes why a source is refused, by the name of the kind, and which byte is named for it. Takes no memory.
+pub fn put_refusal<K: Sink>(sink: &mut K, name: &[u8], place: u32) -> Result<(), WriteFail>
+    ensures text { Writes (K.written sink.old) (K.written sink.new) (line (codes "fault source " ∷ name.now ∷ codes " " ∷ decimal place ∷ codes "\n" ∷ [])) result }
     ensures cause { HasCause (K.faults sink.old) (K.faults sink.new) result }
 {
     put_line(
@@ -32,6 +32,8 @@ pub fn put_refusal<K: Sink>(sink: &mut K, name: &[u8]) -> Result<(), WriteFail>
         &[
             Piece::Text(b"fault source "),
             Piece::Text(name),
+            Piece::Text(b" "),
+            Piece::Number(i128::from(place)),
             Piece::Text(b"\n"),
         ],
     )

@@ -13,6 +13,7 @@ ghost use Rattle.degradation.specs.declared.supply.Supply.{Supply};
 ghost use Rattle.catnap_top.specs.Reply.{CallsFor};
 
 use board_core::rules_decide;
+use cat_places::one_starts;
 use cat_resolve::checked_law;
 use cat_syntax::one_tree;
 use cat_tokens::one_lexing;
@@ -26,12 +27,13 @@ use one_timeline::timelines_end_alike;
 use recovery::first_image_is_one;
 use same_program::{one_choice_law, same_code_law, same_program_law, same_steps_law};
 
-/// A source stands for programs that say the same, or is refused for one kind.
+/// A source stands for programs that say the same, or is refused for one kind at one byte.
 fn one_source()
     ensures { (source : List ℕ) → Agree IsSameProgram (IsSource source) (IsSource source) }
 {
     one_lexing();
     one_tree();
+    one_starts();
     checked_law();
     same_program_law();
 }

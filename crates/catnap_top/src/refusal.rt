@@ -1,4 +1,4 @@
-//! Why a source is refused.
+//! Why a source is refused, and where.
 
 ghost use Rattle.std.specs.Prelude.{◌≡◌};
 ghost use Rattle.cn_base.specs.Causes.{HasCause};
@@ -13,7 +13,7 @@ use cn_base::{Sink, WriteFail};
 
 /// The kinds for which a source is refused, in the order in which they are looked at.
 #[derive(Clone, Copy, Debug, PartialEq, Eq)]
-pub enum SourceFault {
+pub enum SourceKind {
     /// It has more than 262,144 bytes.
     TooLong,
     BadByte,
@@ -39,90 +39,99 @@ pub enum SourceFault {
     CodeTooLong,
 }
 
-impl SourceFault {
+impl SourceKind {
     fn name(self) -> &'static [u8]
         ensures { result.now ≡ kind_name self }
     {
         match self {
-            SourceFault::TooLong => b"TooLong".as_slice(),
-            SourceFault::BadByte => b"BadByte".as_slice(),
-            SourceFault::IntTooLarge => b"IntTooLarge".as_slice(),
-            SourceFault::NameTooLong => b"NameTooLong".as_slice(),
-            SourceFault::TooDeep => b"TooDeep".as_slice(),
-            SourceFault::Syntax => b"Syntax".as_slice(),
-            SourceFault::BadNumber => b"BadNumber".as_slice(),
-            SourceFault::TooManyVars => b"TooManyVars".as_slice(),
-            SourceFault::TooManyEvents => b"TooManyEvents".as_slice(),
-            SourceFault::TooManyTasks => b"TooManyTasks".as_slice(),
-            SourceFault::TooManyVersions => b"TooManyVersions".as_slice(),
-            SourceFault::Twice => b"Twice".as_slice(),
-            SourceFault::Unknown => b"Unknown".as_slice(),
-            SourceFault::WrongType => b"WrongType".as_slice(),
-            SourceFault::WhileInEvent => b"WhileInEvent".as_slice(),
-            SourceFault::RepeatInTask => b"RepeatInTask".as_slice(),
-            SourceFault::PayloadInTask => b"PayloadInTask".as_slice(),
-            SourceFault::DeadlineTooLong => b"DeadlineTooLong".as_slice(),
-            SourceFault::DegradeTooOften => b"DegradeTooOften".as_slice(),
-            SourceFault::StackTooDeep => b"StackTooDeep".as_slice(),
-            SourceFault::HandlerTooLong => b"HandlerTooLong".as_slice(),
-            SourceFault::CodeTooLong => b"CodeTooLong".as_slice(),
+            SourceKind::TooLong => b"TooLong".as_slice(),
+            SourceKind::BadByte => b"BadByte".as_slice(),
+            SourceKind::IntTooLarge => b"IntTooLarge".as_slice(),
+            SourceKind::NameTooLong => b"NameTooLong".as_slice(),
+            SourceKind::TooDeep => b"TooDeep".as_slice(),
+            SourceKind::Syntax => b"Syntax".as_slice(),
+            SourceKind::BadNumber => b"BadNumber".as_slice(),
+            SourceKind::TooManyVars => b"TooManyVars".as_slice(),
+            SourceKind::TooManyEvents => b"TooManyEvents".as_slice(),
+            SourceKind::TooManyTasks => b"TooManyTasks".as_slice(),
+            SourceKind::TooManyVersions => b"TooManyVersions".as_slice(),
+            SourceKind::Twice => b"Twice".as_slice(),
+            SourceKind::Unknown => b"Unknown".as_slice(),
+            SourceKind::WrongType => b"WrongType".as_slice(),
+            SourceKind::WhileInEvent => b"WhileInEvent".as_slice(),
+            SourceKind::RepeatInTask => b"RepeatInTask".as_slice(),
+            SourceKind::PayloadInTask => b"PayloadInTask".as_slice(),
+            SourceKind::DeadlineTooLong => b"DeadlineTooLong".as_slice(),
+            SourceKind::DegradeTooOften => b"DegradeTooOften".as_slice(),
+            SourceKind::StackTooDeep => b"StackTooDeep".as_slice(),
+            SourceKind::HandlerTooLong => b"HandlerTooLong".as_slice(),
+            SourceKind::CodeTooLong => b"CodeTooLong".as_slice(),
         }
     }
+}
 
+/// A source is refused for this, and for it this byte is named, counted from the source's start.
+#[derive(Clone, Copy, Debug, PartialEq, Eq)]
+pub struct SourceFault {
+    pub kind: SourceKind,
+    pub place: u32,
+}
+
+impl SourceFault {
     /// Writes the line of the refusal.
     pub fn write<K: Sink>(self, sink: &mut K) -> Result<(), WriteFail>
         ensures text { Writes (K.written sink.old) (K.written sink.new) (refused self).text result }
         ensures cause { HasCause (K.faults sink.old) (K.faults sink.new) result }
     {
-        let name = self.name();
-        put_refusal(sink, name)
+        let name = self.kind.name();
+        put_refusal(sink, name, self.place)
     }
 }
 
 /// The kind of a text that has no tokens; none where memory ran out.
-pub fn kind_of_token_fault(fault: LexFault) -> Option<SourceFault>
+pub fn kind_of_token_fault(fault: LexFault) -> Option<SourceKind>
     ensures { result ≡ kind_of_token_fault fault }
 {
     match fault {
         LexFault::NoMemory => None,
-        LexFault::BadByte(_) => Some(SourceFault::BadByte),
-        LexFault::IntTooLarge(_) => Some(SourceFault::IntTooLarge),
-        LexFault::NameTooLong(_) => Some(SourceFault::NameTooLong),
+        LexFault::BadByte(_) => Some(SourceKind::BadByte),
+        LexFault::IntTooLarge(_) => Some(SourceKind::IntTooLarge),
+        LexFault::NameTooLong(_) => Some(SourceKind::NameTooLong),
     }
 }
 
 /// The kind of tokens that have no tree; none where memory ran out.
-pub fn kind_of_syntax_fault(fault: SyntaxFault) -> Option<SourceFault>
+pub fn kind_of_syntax_fault(fault: SyntaxFault) -> Option<SourceKind>
     ensures { result ≡ kind_of_syntax_fault fault }
 {
     match fault {
         SyntaxFault::NoMemory => None,
-        SyntaxFault::TooDeep(_) => Some(SourceFault::TooDeep),
-        SyntaxFault::Syntax(_) => Some(SourceFault::Syntax),
+        SyntaxFault::TooDeep(_) => Some(SourceKind::TooDeep),
+        SyntaxFault::Syntax(_) => Some(SourceKind::Syntax),
     }
 }
 
 /// The kind of a tree that breaks a condition; none where memory ran out.
-pub fn kind_of_type_fault(fault: TypeFault) -> Option<SourceFault>
+pub fn kind_of_type_fault(fault: TypeFault) -> Option<SourceKind>
     ensures { result ≡ kind_of_type_fault fault }
 {
     match fault {
         TypeFault::NoMemory => None,
-        TypeFault::BadNumber(_) => Some(SourceFault::BadNumber),
-        TypeFault::TooManyVars(_) => Some(SourceFault::TooManyVars),
-        TypeFault::TooManyEvents(_) => Some(SourceFault::TooManyEvents),
-        TypeFault::TooManyTasks(_) => Some(SourceFault::TooManyTasks),
-        TypeFault::TooManyVersions(_) => Some(SourceFault::TooManyVersions),
-        TypeFault::Twice(_) => Some(SourceFault::Twice),
-        TypeFault::Unknown(_) => Some(SourceFault::Unknown),
-        TypeFault::WrongType(_) => Some(SourceFault::WrongType),
-        TypeFault::WhileInEvent(_) => Some(SourceFault::WhileInEvent),
-        TypeFault::RepeatInTask(_) => Some(SourceFault::RepeatInTask),
-        TypeFault::PayloadInTask(_) => Some(SourceFault::PayloadInTask),
-        TypeFault::DeadlineTooLong(_) => Some(SourceFault::DeadlineTooLong),
-        TypeFault::DegradeTooOften(_) => Some(SourceFault::DegradeTooOften),
-        TypeFault::StackTooDeep(_) => Some(SourceFault::StackTooDeep),
-        TypeFault::HandlerTooLong(_) => Some(SourceFault::HandlerTooLong),
-        TypeFault::CodeTooLong(_) => Some(SourceFault::CodeTooLong),
+        TypeFault::BadNumber(_) => Some(SourceKind::BadNumber),
+        TypeFault::TooManyVars(_) => Some(SourceKind::TooManyVars),
+        TypeFault::TooManyEvents(_) => Some(SourceKind::TooManyEvents),
+        TypeFault::TooManyTasks(_) => Some(SourceKind::TooManyTasks),
+        TypeFault::TooManyVersions(_) => Some(SourceKind::TooManyVersions),
+        TypeFault::Twice(_) => Some(SourceKind::Twice),
+        TypeFault::Unknown(_) => Some(SourceKind::Unknown),
+        TypeFault::WrongType(_) => Some(SourceKind::WrongType),
+        TypeFault::WhileInEvent(_) => Some(SourceKind::WhileInEvent),
+        TypeFault::RepeatInTask(_) => Some(SourceKind::RepeatInTask),
+        TypeFault::PayloadInTask(_) => Some(SourceKind::PayloadInTask),
+        TypeFault::DeadlineTooLong(_) => Some(SourceKind::DeadlineTooLong),
+        TypeFault::DegradeTooOften(_) => Some(SourceKind::DegradeTooOften),
+        TypeFault::StackTooDeep(_) => Some(SourceKind::StackTooDeep),
+        TypeFault::HandlerTooLong(_) => Some(SourceKind::HandlerTooLong),
+        TypeFault::CodeTooLong(_) => Some(SourceKind::CodeTooLong),
     }
 }

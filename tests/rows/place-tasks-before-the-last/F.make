@@ -1,0 +1,1 @@
+print("".join(f"task t{i} {{ }}" for i in range(18)))
