@@ -102,6 +102,8 @@ CASES = {
     "replay-arrivals-100000": replay(
         "event e spacing 10 deadline 10 { }\n", NODE.format(q=15), trace("1000000,2,0,0"), arrivals=[f"{10 * i},e,0" for i in range(100000)]
     ),
+    # a replay of the program's own files, in sizes that grow
+    **{f"bench-{size}": ({}, ["bench", str(size)]) for size in (100, 200, 400, 800, 1665)},
 }
 
 
