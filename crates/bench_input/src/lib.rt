@@ -28,6 +28,7 @@ const PROFILE: &str =
 const ROUND: u64 = 600;
 
 /// The source.
+#[tactic(auto, unfolding(crate::specs::Input::source_text))]
 pub fn source() -> &'static str
     ensures { result.now ≡ source_text }
 {
@@ -35,6 +36,7 @@ pub fn source() -> &'static str
 }
 
 /// The device's profile.
+#[tactic(auto, unfolding(crate::specs::Input::profile_text))]
 pub fn profile() -> &'static str
     ensures { result.now ≡ profile_text }
 {
@@ -92,6 +94,7 @@ fn add_failures_round(text: &mut Vec<u8>, round: u64) -> Result<(), NoMemory>
 }
 
 /// The trace of rounds 0 to `size`.
+#[tactic(auto, unfolding(crate::specs::Input::trace_text))]
 pub fn trace(alloc: Global, size: u32) -> Result<Vec<u8>, NoMemory>
     ensures { IfOk result (λ text. text.items ≡ trace_text size) }
 {
@@ -103,6 +106,7 @@ pub fn trace(alloc: Global, size: u32) -> Result<Vec<u8>, NoMemory>
 }
 
 /// The arrivals of rounds 0 to `size`.
+#[tactic(auto, unfolding(crate::specs::Input::arrivals_text))]
 pub fn arrivals(alloc: Global, size: u32) -> Result<Vec<u8>, NoMemory>
     ensures { IfOk result (λ text. text.items ≡ arrivals_text size) }
 {
@@ -114,6 +118,7 @@ pub fn arrivals(alloc: Global, size: u32) -> Result<Vec<u8>, NoMemory>
 }
 
 /// The failures of rounds 0 to `size`.
+#[tactic(auto, unfolding(crate::specs::Input::failures_text))]
 pub fn failures(alloc: Global, size: u32) -> Result<Vec<u8>, NoMemory>
     ensures { IfOk result (λ text. text.items ≡ failures_text size) }
 {
