@@ -33,7 +33,7 @@ pub data By {A K : Type 0} (fault_of : K → Fault) (rules : Result A K → Type
 pub record Finding {A : Type 0} (rules : A → Type 0) (came : Result A Fault) : Type 0 where
   pub x : A
   pub holds : rules x
-  pub came_is : came ≡ Ok found_x
+  pub came_is : came ≡ Ok x
 
 -- ---- what is answered
 
