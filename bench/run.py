@@ -116,6 +116,8 @@ def cases(part):
         "replay-arrivals-100000": replay(
             "event e spacing 10 deadline 10 { }\n", NODE.format(q=15), trace(f"{million},2,0,0"), arrivals=[f"{10 * i},e,0" for i in range(100000 // part)]
         ),
+        # a replay of the program's own files, in sizes that grow
+        **{f"bench-{size}": ({}, ["bench", str(size // part)]) for size in (100, 200, 400, 800, 1665)},
     }
 
 

@@ -13,7 +13,7 @@ use Rattle.harvest_trace.specs.TraceTable.{trace_of}
 use Rattle.harvest_trace.specs.declared.row.TraceRow.{TraceRow}
 use Rattle.nv_memory.specs.declared.device.Device.{Device}
 use Rattle.catnap_top.specs.declared.words.Form.{Form}
-use Rattle.catnap_top.specs.declared.words.Form.TheVariants.{Run, List as Listing, Check, Replay}
+use Rattle.catnap_top.specs.declared.words.Form.TheVariants.{Run, List as Listing, Check, Replay, Bench}
 use Rattle.catnap_top.specs.declared.refusal.SourceFault.{SourceFault}
 use Rattle.catnap_top.specs.declared.fault.ProfileFault.{ProfileFault}
 use Rattle.catnap_top.specs.declared.fault.ProfileFault.TheVariants as profile
@@ -147,6 +147,7 @@ looks_cut Replay files =
     (λ t. then_leads _ _ _ _ (at_place (arrivals_in p t) (arrivals_cut p t) files 3)
     (λ a. then_leads _ _ _ _ (at_place failures_in failures_cut files 4) (λ f came h. h))))))
     (λ x came h. h)
+looks_cut (Bench size) files = λ came h. h
 
 pub form_cut : (form : Form) (files : List (List ℕ)) (due : Answer)
     → CallsFor form (map (λ file. take (most_bytes + 1) file) files) due → CallsFor form files due

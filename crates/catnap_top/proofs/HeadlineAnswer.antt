@@ -28,9 +28,8 @@ use Rattle.catnap_top.specs.Course.{Outside, Answers, Ends, IsDue, answered, gav
 use Rattle.catnap_top.specs.Faults.{fault_answer}
 use Rattle.catnap_top.specs.Files.{files_in}
 use Rattle.catnap_top.specs.Headline.{HasHeadline, HasReported, IsHeadline, ReplaysShowRuns}
-use Rattle.catnap_top.specs.Lives.{reported}
+use Rattle.catnap_top.specs.Lives.{Life, Lived, Lives, reported}
 use Rattle.catnap_top.specs.Look.{answer_of}
-use Rattle.catnap_top.specs.Replay.{Reports}
 use Rattle.catnap_top.specs.Reply.{looks_of, CallsFor}
 use Rattle.catnap_top.specs.Served.{versions_in}
 use Rattle.catnap_top.specs.Words.{names_of}
@@ -66,26 +65,26 @@ module _ (laws : LowerLaws) (again : ReadsAgain) (lawful : (program : Checked) (
     (starts : (program : Checked) (plan : Plan) → StartsBelong program plan) (on_time : FreshRunsAreOnTime)
     (one : (l : Layout) (program : Checked) → ImagesStandForOne l program)
     (agrees : (program : Checked) (versions : List ℕ) (arrivals : Lists) → AgreesWithOne program versions arrivals) where
-  report_shows : (bytes : List (List ℕ)) (files : ReplayFiles) (chosen : Chosen) (answer : Answer)
+  report_shows : (bytes : List (List ℕ)) (files : ReplayFiles) (chosen : Chosen) (life : Life) (answer : Answer)
       → files_in (get_or bytes 0 []) (get_or bytes 1 []) (get_or bytes 2 []) (get_or bytes 3 []) (get_or bytes 4 []) (Ok files)
-      → versions_in files.program files.device (supply_of files.device) (Ok chosen) → Reports files chosen (Ok answer) → IsHeadline bytes answer.status answer.text
-  report_shows bytes files chosen answer told served r =
+      → versions_in files.program files.device (supply_of files.device) (Ok chosen) → Lives files chosen life → reported files chosen life ≡ answer
+      → IsHeadline bytes answer.status answer.text
+  report_shows bytes files chosen life answer told served lives same =
       let tells = tells_files (get_or bytes 0 []) (get_or bytes 1 []) (get_or bytes 2 []) (get_or bytes 3 []) (get_or bytes 4 []) files told in
-      let same : reported files chosen r.life ≡ answer = let e = r.came_is in cc in
       subst (λ (a : Answer). IsHeadline bytes a.status a.text) same
       (record {
         files = files;
         told = told;
         chosen = chosen;
         served = served;
-        life = r.life;
-        lives = r.lives;
+        life = life;
+        lives = lives;
         status_is = refl;
         text_is = refl;
-        shows = shows_run again files chosen r.life r.lives (is_checked laws (get_or bytes 0 []) (get_or bytes 3 []) files tells)
-            (is_set_up laws (get_or bytes 0 []) (get_or bytes 3 []) files tells chosen r.lives.plan served r.lives.is_plan)
-            (lawful files.program r.lives.plan) (starts files.program r.lives.plan)
-            (plan_facts laws (get_or bytes 0 []) (get_or bytes 3 []) files tells chosen r.lives.plan served r.lives.is_plan) on_time (one r.lives.plan.layout files.program)
+        shows = shows_run again files chosen life lives (is_checked laws (get_or bytes 0 []) (get_or bytes 3 []) files tells)
+            (is_set_up laws (get_or bytes 0 []) (get_or bytes 3 []) files tells chosen lives.plan served lives.is_plan)
+            (lawful files.program lives.plan) (starts files.program lives.plan)
+            (plan_facts laws (get_or bytes 0 []) (get_or bytes 3 []) files tells chosen lives.plan served lives.is_plan) on_time (one lives.plan.layout files.program)
             (agrees files.program chosen.versions files.arrivals);
       })
 
@@ -93,7 +92,16 @@ module _ (laws : LowerLaws) (again : ReadsAgain) (lawful : (program : Checked) (
       → IsHeadline bytes (answer_of came).status (answer_of came).text
   came_shows bytes (Err why) is done = absurd (not_refused why done)
   came_shows bytes (Ok answer) is done =
-      then_gives _ _ answer _ is (λ files told rest. then_gives _ _ answer _ rest (λ chosen served r. report_shows bytes files chosen answer told served r))
+      then_gives _ _ answer _ is
+      (λ files told rest. then_gives _ _ answer _ rest
+      (λ lived looks said. then_gives _ _ lived _ looks
+      (λ chosen served rests. then_gives _ _ lived _ rests
+      (λ life lives e.
+      let found_is : lives.x ≡ life = let f = lives.came_is in cc in
+      let lived_is : (record { files = files; chosen = chosen; life = life }) ≡ lived = cc in
+      let same : reported lived.files lived.chosen lived.life ≡ answer = cc in
+      report_shows bytes files chosen life answer told served (subst (λ (l : Life). Lives files chosen l) found_is lives.holds)
+      (ap (λ (l : Lived). reported l.files l.chosen l.life) lived_is ∙ same)))))
 
   pub replays_show : ReplaysShowRuns
   replays_show bytes due h done =

@@ -35,15 +35,15 @@ use Rattle.board_core.specs.declared.model_board.ModelBoard.{ModelBoard}
 use Rattle.board_core.specs.ModelBoardState.{origin_of, state_of}
 use Rattle.cn_report.specs.declared.shadow.Shadow.{Shadow}
 use Rattle.recovery.specs.Past.{image_at, past_of}
-use Rattle.cn_report.specs.Whole.{report_text, IsReplayed as IsTold}
+use Rattle.cn_report.specs.Whole.{IsReplayed as IsTold}
 use Rattle.catnap_top.specs.declared.files.ReplayFiles.{ReplayFiles}
 use Rattle.catnap_top.specs.declared.fault.NoChoice.TheVariants as none
 use Rattle.catnap_top.specs.Look.{Stops, fits, fails, goes}
-use Rattle.catnap_top.specs.Lives.{Lives, first_point, status_of}
+use Rattle.catnap_top.specs.Lives.{Life, Lived, Lives, first_point}
 use Rattle.catnap_top.specs.Served.{versions_in, stop_of_replay}
 use Rattle.catnap_top.specs.declared.replay.Replayed.{Replayed}
 use Rattle.catnap_top.specs.Replay.{living}
-use Rattle.catnap_top.specs.Replayed.{replayed_answer, HasEnded, IsReadyToTell}
+use Rattle.catnap_top.specs.Replayed.{lived_of, HasEnded, IsReadyToTell}
 
 -- ---- the versions
 
@@ -125,18 +125,18 @@ module _ (files : ReplayFiles) (before : Prepared) (engine : Engine) (o0 : Model
       (ap (λ (o : ModelOrigin). o.trace) same ∙ trace) (ap (λ (o : ModelOrigin). o.fails) same ∙ failing) (ap (λ (o : ModelOrigin). o.device) same ∙ device)
       (ap (λ (o : ModelOrigin). o.tick) same ∙ tick) (ap (λ (o : ModelOrigin). o.stored) same ∙ stored) fresh' first replayed' reached
 
-  pub looks : living files (Ok (replayed_answer (record { prepared = record before { engine = engine }; board = board; end = end; shadow = shadow })))
+  pub looks : living files (Ok (lived_of (record { prepared = record before { engine = engine }; board = board; end = end; shadow = shadow })))
   looks =
+      let traced : (origin_of board).trace ≡ files.trace = ap (λ (o : ModelOrigin). o.trace) same ∙ trace in
+      let failed : (origin_of board).fails ≡ files.failures = ap (λ (o : ModelOrigin). o.fails) same ∙ failing in
+      let life : Life = record { layout = before.plan.layout; origin = origin_of board; state = state_of board; end = end } in
       goes before.chosen (chosen_in files.program files.device before.plan.layout before.chosen is.plan.layout_is is.chosen)
-      (record {
-        life = record { layout = before.plan.layout; origin = origin_of board; state = state_of board; end = end };
-        lives = one_life;
-        came_is = λ i. Ok (record {
-          status = status_of end;
-          text = report_text (is.program_is i).headers (is.program_is i).variables before.chosen (is.plan.arrivals_are i)
-              (past_of before.plan.layout (model_start (origin_of board)) (state_of board)) (state_of board).tick (state_of board).stored end;
-        });
-      })
+      (goes life (record { x = life; holds = one_life; came_is = refl })
+      (λ i. Ok (record {
+        files = record { program = is.program_is i; device = is.device_is i; trace = traced i; arrivals = is.plan.arrivals_are i; failures = failed i };
+        chosen = before.chosen;
+        life = life;
+      })))
 
   pub ready : IsReadyToTell (record { prepared = record before { engine = engine }; board = board; end = end; shadow = shadow })
   ready =
@@ -153,7 +153,7 @@ module _ (files : ReplayFiles) (before : Prepared) (engine : Engine) (o0 : Model
 -- what has ended is what the files call for, and can be told
 tells : (r : Replayed) (files : ReplayFiles) (before : Prepared) (trace : List TraceRow) (failures : List Failure) (device : Device)
     → IsPrepared files.program files.device files.arrivals before → trace ≡ files.trace → failures ≡ files.failures → device ≡ files.device
-    → HasEnded before trace failures device r → (living files (Ok (replayed_answer r))) × IsReadyToTell r
+    → HasEnded before trace failures device r → (living files (Ok (lived_of r))) × IsReadyToTell r
 tells r files before trace failures device is t f d h =
     let b = h.begun in
     let stored : (origin_of h.first).stored ≡ files.device.start = b.stored_is ∙ ap (λ (x : Device). x.start) d in
@@ -162,13 +162,13 @@ tells r files before trace failures device is t f d h =
     let w = ready files before r.prepared.engine (origin_of h.first) (state_of h.first) r.board r.end r.shadow is h.same b.state_is (b.trace_is ∙ t) (b.fails_are ∙ f)
     (b.device_is ∙ d) b.tick_is stored b.fresh h.replayed h.reached h.made in
     let back : (record before { engine = r.prepared.engine }) ≡ r.prepared = sym h.others in (
-      subst (λ (p : Prepared). living files (Ok (replayed_answer (record { prepared = p; board = r.board; end = r.end; shadow = r.shadow })))) back l,
+      subst (λ (p : Prepared). living files (Ok (lived_of (record { prepared = p; board = r.board; end = r.end; shadow = r.shadow })))) back l,
       subst (λ (p : Prepared). IsReadyToTell (record { prepared = p; board = r.board; end = r.end; shadow = r.shadow })) back w,
     )
 
 pub tells_looks : (r : Replayed) (files : ReplayFiles) (before : Prepared) (trace : List TraceRow) (failures : List Failure) (device : Device)
     → IsPrepared files.program files.device files.arrivals before → trace ≡ files.trace → failures ≡ files.failures → device ≡ files.device
-    → HasEnded before trace failures device r → living files (Ok (replayed_answer r))
+    → HasEnded before trace failures device r → living files (Ok (lived_of r))
 tells_looks r files before trace failures device is t f d h = (tells r files before trace failures device is t f d h).0
 
 pub tells_written : (r : Replayed) (files : ReplayFiles) (before : Prepared) (trace : List TraceRow) (failures : List Failure) (device : Device)

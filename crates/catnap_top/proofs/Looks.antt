@@ -6,7 +6,7 @@ use Rattle.catnap_top.specs.declared.fault.Fault.{Fault}
 use Rattle.catnap_top.specs.declared.stop.Stop.{Stop}
 use Rattle.catnap_top.specs.declared.stop.Stop.TheVariants.{NoMemory, Refused}
 use Rattle.catnap_top.specs.Answer.{Answer}
-use Rattle.catnap_top.specs.Look.{Look, Then, stops, goes, found, By, fits, fails, answer_of, ComesTo, Stops, LooksAs}
+use Rattle.catnap_top.specs.Look.{Look, Then, stops, goes, found, Finding, By, fits, fails, answer_of, ComesTo, Stops, LooksAs}
 use Rattle.catnap_top.specs.Alike.{AreAlike, Agree}
 
 -- ---- one answer
@@ -33,6 +33,10 @@ then_agree same alike first second next after agree more came also (stops f is e
 then_agree same alike first second next after agree more came also (goes x is e) (stops g other h) = absurd (agree (Ok x) (Err g) is other)
 then_agree same alike first second next after agree more came also (goes x is e) (goes y other h) =
     more x y (agree (Ok x) (Ok y) is other) came also e h
+
+pub finding_agree : {A B : Type 0} (same : A → B → Type 0) (rules : A → Type 0) (others : B → Type 0) → ((x : A) (y : B) → rules x → others y → same x y)
+    → Agree same (Finding rules) (Finding others)
+finding_agree same rules others agree came also h k = alike_by same (Ok h.x) came (Ok k.x) also h.came_is k.came_is (agree h.x k.x h.holds k.holds)
 
 pub found_agree : {A B : Type 0} (same : A → B → Type 0) (x : A) (y : B) → same x y → Agree same (found x) (found y)
 found_agree same x y h came also e f = alike_by same (Ok x) came (Ok y) also e f h

@@ -14,17 +14,22 @@ use Rattle.harvest_trace.specs.declared.row.TraceRow.{TraceRow}
 use Rattle.catnap_top.specs.declared.fault.Table.{Table}
 use Rattle.catnap_top.specs.declared.fault.Table.TheVariants as table
 use Rattle.catnap_top.specs.declared.words.Form.{Form}
-use Rattle.catnap_top.specs.declared.words.Form.TheVariants.{Run, List as Listing, Check, Replay}
+use Rattle.catnap_top.specs.declared.words.Form.TheVariants.{Run, List as Listing, Check, Replay, Bench}
 use Rattle.catnap_top.specs.declared.fault.Fault.TheVariants as fault
 use Rattle.catnap_top.specs.Answer.{Answer}
-use Rattle.catnap_top.specs.Alike.{AreAlike, Agree, IsSameProgram, AreSameFiles}
+use Rattle.catnap_top.specs.Alike.{AreAlike, Agree, IsSameProgram, AreSameFiles, AreSameLived}
 use Rattle.catnap_top.specs.OneLife.{LivesAreOne}
 use Rattle.catnap_top.specs.Files.{IsSource, program_in, IsProfile, device_in, table_in, arrivals_in, files_in}
 use Rattle.catnap_top.specs.Served.{Serves, versions_in}
-use Rattle.catnap_top.specs.Replay.{replaying}
+use Rattle.catnap_top.specs.declared.files.ReplayFiles.{ReplayFiles}
+use Rattle.catnap_top.specs.Lives.{Life, Lived, reported}
+use Rattle.catnap_top.specs.Look.{Look, Then, found}
+use Rattle.catnap_top.specs.Replay.{living}
 use Rattle.catnap_top.specs.Reply.{looks_of, CallsFor}
 use Rattle.catnap_top.proofs.Looks.{by_agree, then_agree, found_agree, comes_to_one}
-use Rattle.catnap_top.proofs.OneReport.{SameCode, reports_agree}
+use Rattle.catnap_top.proofs.OneReport.{SameCode, life_agrees, reported_same, summed_same}
+use Rattle.catnap_top.specs.Bench.{summed}
+use Rattle.bench_input.specs.Input.{source_text, profile_text, trace_text, arrivals_text, failures_text}
 use Rattle.catnap_top.proofs.Programs.{SameFirst, SameStep, SameListing, ran_same, listed_same, checked_same}
 
 -- ---- tables
@@ -78,16 +83,35 @@ module _ (source : (bytes : List ℕ) → Agree IsSameProgram (IsSource bytes) (
       (λ k l arrivals. then_agree (λ x y. x ≡ y) AreSameFiles _ _ _ _ (table_agree table.Fails (fails_of f) (fails_of f) refl)
       (λ m n failures. found_agree AreSameFiles _ _ (record { program = are; device = device; trace = trace; arrivals = arrivals; failures = failures }))))))
 
-  -- a replay of what the files tell
-  replays_agree : SameCode → LivesAreOne → (s d t a f : List ℕ) → Agree (λ (a b : Answer). a ≡ b) (replaying s d t a f) (replaying s d t a f)
-  replays_agree code one s d t a f =
-      then_agree (λ x y. AreSameFiles x y × files_in s d t a f (Ok x) × files_in s d t a f (Ok y)) (λ a b. a ≡ b) _ _ _ _ (agree_given AreSameFiles (files_in s d t a f) (files_in s d t a f) (files_agree s d t a f))
-      (λ x y both.
+  -- the files of a replay, and what each look for them found
+  abbrev AreTold : List ℕ → List ℕ → List ℕ → List ℕ → List ℕ → ReplayFiles → ReplayFiles → Type 0
+  AreTold s d t a f x y = AreSameFiles x y × files_in s d t a f (Ok x) × files_in s d t a f (Ok y)
+
+  told_files_agree : (s d t a f : List ℕ) → Agree (AreTold s d t a f) (files_in s d t a f) (files_in s d t a f)
+  told_files_agree s d t a f = agree_given AreSameFiles (files_in s d t a f) (files_in s d t a f) (files_agree s d t a f)
+
+  -- the life that they call for
+  living_agree : SameCode → LivesAreOne → (s d t a f : List ℕ) (x y : ReplayFiles) → AreTold s d t a f x y → Agree AreSameLived (living x) (living y)
+  living_agree code one s d t a f x y both =
       let same : AreSameFiles x y = both.0 in
       let looks = versions_in x.program x.device (supply_of x.device) in
       let others = versions_in y.program y.device (supply_of y.device) in
-      then_agree (λ c e. (c ≡ e) × looks (Ok c) × others (Ok e)) (λ a b. a ≡ b) _ _ _ _ (agree_given (λ c e. c ≡ e) looks others (versions x.program y.program x.device y.device same.program same.device))
-      (λ c e chosen. reports_agree code x y same c e (λ one_life other. one s d t a f y c one_life other both.2 (subst (λ (v : Chosen). others (Ok v)) (sym chosen.0) chosen.2)) chosen.0))
+      then_agree (λ c e. (c ≡ e) × looks (Ok c) × others (Ok e)) AreSameLived _ _ _ _ (agree_given (λ c e. c ≡ e) looks others (versions x.program y.program x.device y.device same.program same.device))
+      (λ c e chosen.
+      then_agree (λ (k l : Life). k ≡ l) AreSameLived _ _ _ _
+      (life_agrees code x y same c e (λ one_life other. one s d t a f y c one_life other both.2 (subst (λ (v : Chosen). others (Ok v)) (sym chosen.0) chosen.2)) chosen.0)
+      (λ k l life. found_agree AreSameLived _ _ (record { files = same; chosen = chosen.0; life = life })))
+
+  -- what is told of it
+  abbrev telling : List ℕ → List ℕ → List ℕ → List ℕ → List ℕ → (Lived → Answer) → Look Answer
+  telling s d t a f tell = Then (files_in s d t a f) (λ files. Then (living files) (λ lived. found (tell lived)))
+
+  telling_agrees : SameCode → LivesAreOne → (s d t a f : List ℕ) (tell : Lived → Answer) → ((k l : Lived) → AreSameLived k l → tell k ≡ tell l)
+      → Agree (λ (a b : Answer). a ≡ b) (telling s d t a f tell) (telling s d t a f tell)
+  telling_agrees code one s d t a f tell same_told =
+      then_agree (AreTold s d t a f) (λ a b. a ≡ b) _ _ _ _ (told_files_agree s d t a f)
+      (λ x y both. then_agree AreSameLived (λ a b. a ≡ b) _ _ _ _ (living_agree code one s d t a f x y both)
+      (λ k l same. found_agree (λ a b. a ≡ b) _ _ (same_told k l same)))
 
   module _ (first : SameFirst) (each : SameStep) (listing : SameListing) (code : SameCode) (one : LivesAreOne) where
     one_looks : (form : Form) (files : List (List ℕ)) → Agree (λ (a b : Answer). a ≡ b) (looks_of form files) (looks_of form files)
@@ -102,7 +126,11 @@ module _ (source : (bytes : List ℕ) → Agree IsSameProgram (IsSource bytes) (
         (λ p q are. then_agree (λ d e. d ≡ e) (λ a b. a ≡ b) _ _ _ _ (devices (get_or files 1 []))
         (λ d e same. then_agree (λ x y. x ≡ y) (λ a b. a ≡ b) _ _ _ _ (versions p q d e are same)
         (λ x y equal. found_agree (λ a b. a ≡ b) _ _ (checked_same p q x y are.same equal))))
-    one_looks Replay files = replays_agree code one (get_or files 0 []) (get_or files 1 []) (get_or files 2 []) (get_or files 3 []) (get_or files 4 [])
+    one_looks Replay files =
+        telling_agrees code one (get_or files 0 []) (get_or files 1 []) (get_or files 2 []) (get_or files 3 []) (get_or files 4 [])
+        (λ lived. reported lived.files lived.chosen lived.life) reported_same
+    one_looks (Bench size) files =
+        telling_agrees code one source_text profile_text (trace_text size) (arrivals_text size) (failures_text size) (summed size) (summed_same size)
 
     pub one_answer : (form : Form) (files : List (List ℕ)) (a b : Answer) → CallsFor form files a → CallsFor form files b → a ≡ b
     one_answer form files a b h k = comes_to_one (looks_of form files) (looks_of form files) (one_looks form files) a b h k

@@ -1,5 +1,5 @@
--- Files that tell the same call for the same lives and for the same reports.
-use Rattle.std.proofs.Common.{◌≡◌, ℕ, false, List, length, map, Ok, None, replicate, refl, sym, ap, ◌∙◌, subst}
+-- Files that tell the same call for the same lives, and the same is told of them.
+use Rattle.std.proofs.Common.{◌≡◌, ℕ, false, List, length, map, None, replicate, refl, sym, ap, ◌∙◌, subst}
 use Rattle.cat_program.specs.declared.headers.Event.{Event}
 use Rattle.cat_program.specs.Checked.{Checked}
 use Rattle.cat_machine.specs.Code.{code_of}
@@ -18,11 +18,12 @@ use Rattle.recovery.specs.Past.{past_of}
 use Rattle.cn_report.specs.Whole.{report_text}
 use Rattle.same_program.specs.Same.{IsSame}
 use Rattle.catnap_top.specs.declared.files.ReplayFiles.{ReplayFiles}
-use Rattle.catnap_top.specs.Answer.{Answer}
-use Rattle.catnap_top.specs.Alike.{Agree, AreSameFiles}
-use Rattle.catnap_top.specs.Lives.{Life, Lives, first_point, reported, status_of}
-use Rattle.catnap_top.specs.Replay.{Reports}
-use Rattle.catnap_top.proofs.Looks.{alike_by}
+use Rattle.catnap_top.specs.Alike.{Agree, AreSameFiles, AreSameLived}
+use Rattle.catnap_top.specs.Lives.{Life, Lived, Lives, first_point, reported, status_of}
+use Rattle.catnap_top.specs.Replay.{life_in}
+use Rattle.catnap_top.specs.Bench.{summary_text, summed}
+use Rattle.cn_report.specs.Tallied.{tally_of}
+use Rattle.catnap_top.proofs.Looks.{finding_agree}
 
 abbrev pub SameCode : Type 0
 SameCode = (p q : Checked) → IsSame p q → code_of p ≡ code_of q
@@ -101,19 +102,33 @@ module _ (code : SameCode) (x y : ReplayFiles) (same : AreSameFiles x y) where
         reached = is.reached;
       }
 
-  text_same : (c : Chosen) (life : Life) → reported x c life ≡ reported y c life
-  text_same c life =
-      let alike = same.program.same in
-      let arrivals = same.arrivals in
-      λ i. record {
-        status = status_of life.end;
-        text = report_text (alike.headers i) (alike.variables i) c (arrivals i) (past_of life.layout (model_start life.origin) life.state)
-            life.state.tick life.state.stored life.end;
-      }
-
   -- where there is one life
-  pub reports_agree : (c e : Chosen) → ((a b : Life) → Lives y c a → Lives y c b → a ≡ b) → c ≡ e → Agree (λ (a b : Answer). a ≡ b) (Reports x c) (Reports y e)
-  reports_agree c e one equal came also h k =
-      let life : h.life ≡ k.life = one h.life k.life (lives_same c h.life h.lives) (subst (λ (v : Chosen). Lives y v k.life) (sym equal) k.lives) in
-      alike_by (λ (a b : Answer). a ≡ b) (Ok (reported x c h.life)) came (Ok (reported y e k.life)) also h.came_is k.came_is
-      (text_same c h.life ∙ ap (reported y c) life ∙ ap (λ (v : Chosen). reported y v k.life) equal)
+  pub life_agrees : (c e : Chosen) → ((a b : Life) → Lives y c a → Lives y c b → a ≡ b) → c ≡ e → Agree (λ (a b : Life). a ≡ b) (life_in x c) (life_in y e)
+  life_agrees c e one equal =
+      finding_agree (λ (a b : Life). a ≡ b) (Lives x c) (Lives y e)
+      (λ a b h k. one a b (lives_same c a h) (subst (λ (v : Chosen). Lives y v b) (sym equal) k))
+
+-- ---- what is told of a life
+
+pub reported_same : (a b : Lived) → AreSameLived a b → reported a.files a.chosen a.life ≡ reported b.files b.chosen b.life
+reported_same a b same =
+    let alike = same.files.program.same in
+    let arrivals = same.files.arrivals in
+    let chosen = same.chosen in
+    let life = same.life in
+    λ i. record {
+      status = status_of (life i).end;
+      text = report_text (alike.headers i) (alike.variables i) (chosen i) (arrivals i) (past_of (life i).layout (model_start (life i).origin) (life i).state)
+          (life i).state.tick (life i).state.stored (life i).end;
+    }
+
+pub summed_same : (size : ℕ) (a b : Lived) → AreSameLived a b → summed size a ≡ summed size b
+summed_same size a b same =
+    let headers = same.files.program.same.headers in
+    let arrivals = same.files.arrivals in
+    let life = same.life in
+    λ i. record {
+      status = status_of (life i).end;
+      text = summary_text size (life i).state.tick (tally_of (headers i) (arrivals i) (past_of (life i).layout (model_start (life i).origin) (life i).state))
+          (life i).state.stored (life i).end;
+    }

@@ -1,7 +1,7 @@
 -- The statuses that words and files call for are none of the four that have causes of their own.
-use Rattle.std.proofs.Common.{◌≡◌, ℕ, List, Result, Ok, Err, true, refl, sym, ◌∙◌, subst}
+use Rattle.std.proofs.Common.{◌≡◌, ℕ, List, Result, Ok, Err, true, refl, sym, subst}
 use Rattle.catnap_top.specs.declared.words.Form.{Form}
-use Rattle.catnap_top.specs.declared.words.Form.TheVariants.{Run, List as Listing, Check, Replay}
+use Rattle.catnap_top.specs.declared.words.Form.TheVariants.{Run, List as Listing, Check, Replay, Bench}
 use Rattle.catnap_top.specs.declared.fault.Fault.{Fault}
 use Rattle.catnap_top.specs.declared.fault.Fault.TheVariants as fault
 use Rattle.catnap_top.specs.declared.fault.Table.TheVariants as table
@@ -9,12 +9,9 @@ use Rattle.catnap_top.specs.declared.fault.NoChoice.TheVariants as none
 use Rattle.catnap_top.specs.Answer.{Answer, is_own}
 use Rattle.catnap_top.specs.Faults.{fault_answer}
 use Rattle.catnap_top.specs.Look.{Look, answer_of}
-use Rattle.degradation.specs.declared.chosen.Chosen.{Chosen}
 use Rattle.cn_scheduler.specs.declared.engine.End.{End}
 use Rattle.cn_scheduler.specs.declared.engine.End.TheVariants.{TraceEnded, LogFull}
-use Rattle.catnap_top.specs.declared.files.ReplayFiles.{ReplayFiles}
-use Rattle.catnap_top.specs.Lives.{reported, status_of}
-use Rattle.catnap_top.specs.Replay.{Reports}
+use Rattle.catnap_top.specs.Lives.{status_of}
 use Rattle.catnap_top.specs.Reply.{CallsFor, looks_of}
 use Rattle.catnap_top.proofs.Looks.{Finds, found_finds, then_finds}
 
@@ -38,13 +35,11 @@ end_own : (end : End) → is_own (status_of end) ≡ true
 end_own TraceEnded = refl
 end_own LogFull = refl
 
-reports_own : (files : ReplayFiles) (chosen : Chosen) → Finds IsOwn (Reports files chosen)
-reports_own files chosen came h x e = let same : x ≡ reported files chosen h.life = let both = sym e ∙ h.came_is in (cc) in subst IsOwn (sym same) (end_own h.life.end)
-
 looks_own : (form : Form) (files : List (List ℕ)) → Finds IsOwn (looks_of form files)
 looks_own (Run steps) files = then_finds IsOwn _ _ (λ p. found_finds IsOwn _ refl)
 looks_own Listing files = then_finds IsOwn _ _ (λ p. found_finds IsOwn _ refl)
-looks_own Replay files = then_finds IsOwn _ _ (λ replay. then_finds IsOwn _ _ (λ chosen. reports_own replay chosen))
+looks_own Replay files = then_finds IsOwn _ _ (λ files. then_finds IsOwn _ _ (λ lived. found_finds IsOwn _ (end_own lived.life.end)))
+looks_own (Bench size) files = then_finds IsOwn _ _ (λ made. then_finds IsOwn _ _ (λ lived. found_finds IsOwn _ (end_own lived.life.end)))
 looks_own Check files = then_finds IsOwn _ _ (λ p. then_finds IsOwn _ _ (λ d. then_finds IsOwn _ _ (λ c. found_finds IsOwn _ refl)))
 
 pub form_own : (form : Form) (files : List (List ℕ)) (due : Answer) → CallsFor form files due → IsOwn due

@@ -3,6 +3,7 @@ use Rattle.std.specs.Prelude.{◌≡◌, Result, Ok, Err}
 use Rattle.cat_program.specs.Checked.{Checked, IsChecked}
 use Rattle.same_program.specs.Same.{IsSame}
 use Rattle.catnap_top.specs.declared.files.ReplayFiles.{ReplayFiles}
+use Rattle.catnap_top.specs.Lives.{Lived}
 
 -- both find something, and these are the same; or both have this fault
 abbrev pub AreAlike : {A B E : Type 0} → (A → B → Type 0) → Result A E → Result B E → Type 0
@@ -28,3 +29,9 @@ pub record AreSameFiles (x y : ReplayFiles) : Type 0 where
   pub trace : x.trace ≡ y.trace
   pub arrivals : x.arrivals ≡ y.arrivals
   pub failures : x.failures ≡ y.failures
+
+-- lives of files that tell the same
+pub record AreSameLived (a b : Lived) : Type 0 where
+  pub files : AreSameFiles a.files b.files
+  pub chosen : a.chosen ≡ b.chosen
+  pub life : a.life ≡ b.life

@@ -50,11 +50,17 @@ pub record Lives (files : ReplayFiles) (chosen : Chosen) (life : Life) : Type 0 
   pub ends : EndsAs life.end (last_outcome chunks)
   pub reached : IsReached life.origin life.state
 
+-- files, the versions that are chosen for their program, and the life that follows
+pub record Lived : Type 0 where
+  pub files : ReplayFiles
+  pub chosen : Chosen
+  pub life : Life
+
 abbrev pub status_of : End → Status
 status_of TraceEnded = Done
 status_of LogFull = Full
 
--- its report
+-- the report of a life
 abbrev pub reported : ReplayFiles → Chosen → Life → Answer
 reported files chosen life =
     record {

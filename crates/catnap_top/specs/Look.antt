@@ -29,6 +29,12 @@ pub data By {A K : Type 0} (fault_of : K → Fault) (rules : Result A K → Type
   fits : (x : A) → rules (Ok x) → came ≡ Ok x → By fault_of rules came
   fails : (kind : K) → rules (Err kind) → came ≡ Err (fault_of kind) → By fault_of rules came
 
+-- a look that has no fault: it finds what fits
+pub record Finding {A : Type 0} (rules : A → Type 0) (came : Result A Fault) : Type 0 where
+  pub x : A
+  pub holds : rules x
+  pub came_is : came ≡ Ok x
+
 -- ---- what is answered
 
 abbrev pub answer_of : Result Answer Fault → Answer

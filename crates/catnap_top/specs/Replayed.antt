@@ -1,4 +1,4 @@
--- A replay that has ended, and the answer for which it stands.
+-- A replay that has ended, and the life and the report for which it stands.
 use Rattle.std.specs.Prelude.{◌≡◌, List, length}
 use Rattle.harvest_trace.specs.declared.failures.Failure.{Failure}
 use Rattle.harvest_trace.specs.declared.row.TraceRow.{TraceRow}
@@ -13,18 +13,28 @@ use Rattle.degradation.specs.Choice.{Suits}
 use Rattle.board_core.specs.Reached.{IsReached, first_state, model_start}
 use Rattle.board_core.specs.ModelBoardState.{origin_of, state_of}
 use Rattle.recovery.specs.Past.{past_of}
-use Rattle.cn_report.specs.Whole.{report_text, IsReplayed}
+use Rattle.cn_report.specs.Whole.{IsReplayed}
 use Rattle.catnap_top.specs.declared.replay.Replayed.{Replayed}
 use Rattle.catnap_top.specs.Answer.{Answer}
-use Rattle.catnap_top.specs.Lives.{status_of}
+use Rattle.catnap_top.specs.Lives.{Lived, reported}
+
+-- the life for which it stands, with the files and the versions from which it came
+abbrev pub lived_of : Replayed → Lived
+lived_of r =
+    record {
+      files = record {
+        program = r.prepared.program;
+        device = r.prepared.device;
+        trace = (origin_of r.board).trace;
+        arrivals = r.prepared.plan.queue.arrivals;
+        failures = (origin_of r.board).fails;
+      };
+      chosen = r.prepared.chosen;
+      life = record { layout = r.prepared.plan.layout; origin = origin_of r.board; state = state_of r.board; end = r.end };
+    }
 
 abbrev pub replayed_answer : Replayed → Answer
-replayed_answer r =
-    record {
-      status = status_of r.end;
-      text = report_text r.prepared.program.headers r.prepared.program.variables r.prepared.chosen r.prepared.plan.queue.arrivals
-          (past_of r.prepared.plan.layout (model_start (origin_of r.board)) (state_of r.board)) (state_of r.board).tick (state_of r.board).stored r.end;
-    }
+replayed_answer r = reported (lived_of r).files (lived_of r).chosen (lived_of r).life
 
 -- its report can be written
 pub record IsReadyToTell (r : Replayed) : Type 0 where

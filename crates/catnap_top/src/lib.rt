@@ -1,6 +1,7 @@
 //! The top call: words, inputs and a sink in, a status out.
 #![tactic(auto)]
 
+mod bench;
 mod check;
 mod compiled;
 mod fault;

@@ -7,7 +7,7 @@ ghost use Rattle.catnap_top.specs.Look.{LooksAs};
 ghost use Rattle.catnap_top.specs.Replay.{living, replaying};
 ghost use Rattle.catnap_top.specs.Lives.{status_of};
 ghost use Rattle.catnap_top.specs.Served.{stop_of_replay};
-ghost use Rattle.catnap_top.specs.Replayed.{replayed_answer, HasBegun, HasEnded, IsReadyToTell};
+ghost use Rattle.catnap_top.specs.Replayed.{lived_of, replayed_answer, HasBegun, HasEnded, IsReadyToTell};
 ghost use Rattle.checkpoint_slots.specs.Slot.{IsMadeFor};
 ghost use Rattle.cn_scheduler.specs.Belongs.{IsLayoutOf};
 ghost use Rattle.cn_scheduler.specs.EnginePoint.{IsFirst};
@@ -146,9 +146,9 @@ fn run_out(
 }
 
 /// Replays what the files tell, with all memory taken before the first step.
-fn live(alloc: Global, files: ReplayFiles) -> Result<Replayed, Stop>
+pub fn live(alloc: Global, files: ReplayFiles) -> Result<Replayed, Stop>
     requires { length files.arrivals.timings ≡ length files.program.events }
-    ensures looks { LooksAs replayed_answer (living files) result }
+    ensures looks { LooksAs lived_of (living files) result }
     ensures written { IfOk result IsReadyToTell }
 {
     let ReplayFiles {

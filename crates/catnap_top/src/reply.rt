@@ -6,6 +6,7 @@ ghost use Rattle.catnap_top.specs.Look.{LooksAs};
 ghost use Rattle.catnap_top.specs.Reply.{CallsFor, CanBeWritten, looks_of, reply_answer};
 
 use crate::Status;
+use crate::bench::{prepare_bench, write_bench};
 use crate::check::{prepare_check, write_check};
 use crate::compiled::Compiled;
 use crate::fault::Fault;
@@ -32,6 +33,7 @@ pub enum Reply {
     List(Compiled),
     Check(Selected),
     Replay(Replayed),
+    Bench { size: u32, replayed: Replayed },
 }
 
 impl Reply {
@@ -43,7 +45,7 @@ impl Reply {
             Reply::ReadFault(_) => Status::ReadFault,
             Reply::Refused(fault) => fault.status(),
             Reply::Run(_) | Reply::List(_) | Reply::Check(_) => Status::Done,
-            Reply::Replay(replayed) => status_for(replayed.end),
+            Reply::Replay(replayed) | Reply::Bench { replayed, .. } => status_for(replayed.end),
         }
     }
 
@@ -60,6 +62,7 @@ impl Reply {
             Reply::List(compiled) => write_list(sink, &compiled),
             Reply::Check(selected) => write_check(sink, &selected),
             Reply::Replay(replayed) => write_replay(sink, replayed),
+            Reply::Bench { size, replayed } => write_bench(sink, size, replayed),
         }
     }
 }
@@ -82,6 +85,7 @@ fn prepare(alloc: Global, form: Form, files: &[Vec<u8>]) -> Result<Reply, Stop>
             files[3].as_slice(),
             files[4].as_slice(),
         ),
+        Form::Bench { size } => prepare_bench(alloc, size),
     }
 }
 

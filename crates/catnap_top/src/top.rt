@@ -65,6 +65,8 @@ fn respond<I: Inputs, K: Sink>(
 ///   events, with what a job in each takes at most, and the numbers of that choice.
 /// - `replay SRC DEVICE TRACE ARRIVALS FAILS`: the report of the source's life on the device, where the
 ///   trace, the arrivals and the failures are as these tables say.
+/// - `bench N`, N being 1 to 4 decimal digits of at most 1,665: how many lines of each kind that report has, and
+///   how it ends, for a source and tables of that size that the program makes itself. It reads no file.
 ///
 /// All memory is taken before the first byte is written.
 ///

@@ -4,6 +4,9 @@ ghost use Rattle.catnap_top.specs.Words.{texts, number_of, form_of, file_count, 
 /// The greatest count of steps that `run` may be asked for.
 const MOST_STEPS: u32 = 1_000_000;
 
+/// The greatest size that `bench` may be asked for.
+const MOST_SIZE: u32 = 1_665;
+
 /// What the words ask for; the words that name files follow the first.
 #[derive(Clone, Copy, Debug, PartialEq, Eq)]
 pub enum Form {
@@ -15,6 +18,8 @@ pub enum Form {
     Check,
     /// `replay SRC DEVICE TRACE ARRIVALS FAILS`
     Replay,
+    /// `bench N`
+    Bench { size: u32 },
 }
 
 impl Form {
@@ -26,6 +31,7 @@ impl Form {
             Form::Run { .. } | Form::List => 1,
             Form::Check => 2,
             Form::Replay => 5,
+            Form::Bench { .. } => 0,
         }
     }
 }
@@ -67,6 +73,10 @@ pub fn form_in(words: &[String]) -> Option<Form>
         }
         [command, _, _] if command.as_str() == "check" => Some(Form::Check),
         [command, _] if command.as_str() == "list" => Some(Form::List),
+        [command, size] if command.as_str() == "bench" => {
+            let size = number(size.as_str(), 4, MOST_SIZE)?;
+            Some(Form::Bench { size })
+        }
         [command, _, _, _, _, _] if command.as_str() == "replay" => Some(Form::Replay),
         _ => None,
     }

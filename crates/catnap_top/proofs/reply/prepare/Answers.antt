@@ -1,5 +1,5 @@
 use Rattle.std.proofs.Common.{◌≡◌, ap, ◌∙◌, subst, arith, length}
-use Rattle.catnap_top.specs.declared.words.Form.TheVariants.{Run, List as Listing, Check, Replay}
+use Rattle.catnap_top.specs.declared.words.Form.TheVariants.{Run, List as Listing, Check, Replay, Bench}
 use Rattle.catnap_top.specs.Words.{file_count}
 use Rattle.catnap_top.specs.Look.{LooksAs}
 use Rattle.catnap_top.specs.Reply.{reply_answer}
@@ -45,3 +45,6 @@ returns-in-Replay-clause-looks c =
     let failures = file_at files 4 c.index-files-4.result c.as_slice-in-Replay-5.result.now (omega arith) c.as_slice-in-Replay-5.ensures.value c.index-files-4.is in
     looks_as_form c.args.form Replay (contents files) c.prepare_replay.result c.in-Replay.is
     (rw (source, profile, trace, arrivals, failures) at c.prepare_replay.ensures.looks)
+
+pub returns-in-Bench-clause-looks : goal.returns-in-Bench-clause-looks
+returns-in-Bench-clause-looks c = looks_as_form c.args.form (Bench c.in-Bench.size) (contents c.args.files.now) c.prepare_bench.result c.in-Bench.is c.prepare_bench.ensures.looks
