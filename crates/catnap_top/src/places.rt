@@ -14,9 +14,8 @@ pub fn byte_named(fault: LexFault) -> u32
 {
     match fault {
         LexFault::NoMemory => 0,
-        LexFault::BadByte(number)
-        | LexFault::IntTooLarge(number)
-        | LexFault::NameTooLong(number) => number,
+        LexFault::BadByte(number) | LexFault::IntTooLarge(number) | LexFault::NameTooLong(number) =>
+            number,
     }
 }
 

@@ -39,13 +39,7 @@ fn stop(kind: Option<SourceKind>, place: u32) -> Stop
 }
 
 /// The refusal of a source whose tree breaks a condition.
-fn unchecked(
-    alloc: Global,
-    source: &[u8],
-    tokens: &[Token],
-    tree: &Tree,
-    fault: TypeFault,
-) -> Stop
+fn unchecked(alloc: Global, source: &[u8], tokens: &[Token], tree: &Tree, fault: TypeFault) -> Stop
     requires within { length source.now ≤ most_source }
     requires few { length tokens.now ≤ length source.now }
     requires lexed { Lexes 0 source.now tokens.now None }
