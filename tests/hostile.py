@@ -47,7 +47,7 @@ SOURCE_KINDS = ["TooLong", "BadByte", "IntTooLarge", "NameTooLong", "TooDeep", "
 FAULTS = {
     2: "fault usage\n",
     3: r"fault read [1-5]\n",
-    5: rf"fault source (?:{'|'.join(SOURCE_KINDS)})\n",
+    5: rf"fault source (?:{'|'.join(SOURCE_KINDS)}) \d+\n",
     6: r"fault device (?:long|syntax|extra|(?:key|range) [a-z]+(?:\.[a-z]+)?)\n",
     7: r"fault trace \d+ (?:Long|Header|Fields|Number|Range|Total)\n",
     8: r"fault arrivals \d+ (?:Long|Header|Many|Fields|Number|Range|Name|Order)\n",
@@ -60,8 +60,9 @@ TEXTS = {
     "list": {0: rf"(?:(?:task {NAME}|event {NAME} \d) \d+\n|\d+ [a-z]+(?: \d+)*\n)*"},
     "check": {0: CHOSEN},
     "replay": {0: REPORT % "trace", 12: REPORT % "log"},
+    "bench": {0: r"bench \d+\nticks \d+\nran \d+\nmet \d+\nlost \d+\ndropped \d+\nouts \d+\nend \d+ trace\n"},
 }
-REFUSED = {"run": (2, 3, 5), "list": (2, 3, 5), "check": (2, 3, 5, 6, 10, 11), "replay": (2, 3, 5, 6, 7, 8, 9, 10, 11)}
+REFUSED = {"run": (2, 3, 5), "list": (2, 3, 5), "check": (2, 3, 5, 6, 10, 11), "replay": (2, 3, 5, 6, 7, 8, 9, 10, 11), "bench": (2,)}
 # the texts of each command by their statuses; words of no command have one
 WHOLE = {None: {2: re.compile(FAULTS[2].encode())}}
 for command, texts in TEXTS.items():
@@ -301,7 +302,7 @@ def damaged(plain):
 
 
 LONG = {
-    "source": (5, b"fault source TooLong\n"),
+    "source": (5, b"fault source TooLong 262144\n"),
     "device": (6, b"fault device long\n"),
     "trace": (7, b"fault trace 0 Long\n"),
     "arrivals": (8, b"fault arrivals 0 Long\n"),
@@ -345,32 +346,42 @@ def nested_sources():
         yield depth, "signs", "int x = 0; task t { out 1, " + "-(" * inner + "x" + ")" * inner + "; } start t;"
 
 
+def first_too_deep(text):
+    """The place of the first bracket with which more than 32 are open, or none."""
+    depth = 0
+    for place, letter in enumerate(text):
+        depth += (letter in "([{") - (letter in ")]}")
+        if depth > 32:
+            return place
+    return None
+
+
 def sources(tests, short):
     run = FORMS[0]
     for depth, label, text in nested_sources():
-        wanted = 0 if depth <= 32 else (5, b"fault source TooDeep\n")
+        wanted = 0 if depth <= 32 else (5, b"fault source TooDeep %d\n" % first_too_deep(text))
         tests.look_at_file(f"with {label}, {depth} deep", run, 1, text.encode(), wanted)
         tests.look_at_file(f"with {label}, {depth} deep", FORMS[1], 1, text.encode(), wanted)
-    # bounds on numbers: the source, its least and greatest number that is taken, and the fault past them
+    # bounds on numbers: the source, its least and greatest number that is taken, the fault past them, and what is named as its place
     bounds = [
-        ("int a[%d];", 1, 1024, "BadNumber"),
-        ("event e spacing %d deadline 1 { }", 1, 1000000, "BadNumber"),
-        ("event e every %d offset 0 deadline 1 { }", 1, 1000000, "BadNumber"),
-        ("event e every 9 offset %d deadline 1 { }", 0, 1000000, "BadNumber"),
-        ("event e spacing 1000000 deadline %d { }", 1, 1000000, "BadNumber"),
-        ("task t { out %d, 1; }", 0, 255, "BadNumber"),
-        ("event e spacing 9 deadline 9 { repeat %d { } }", 0, 1000, "BadNumber"),
-        ("event e spacing 9 deadline %d { }", 1, 9, "DeadlineTooLong"),
-        ("int x = %d;", 0, 2147483647, "IntTooLarge"),
-        ("int x = -%d;", 0, 2147483647, "IntTooLarge"),
+        ("int a[%d];", 1, 1024, "BadNumber", "int"),
+        ("event e spacing %d deadline 1 { }", 1, 1000000, "BadNumber", "event"),
+        ("event e every %d offset 0 deadline 1 { }", 1, 1000000, "BadNumber", "event"),
+        ("event e every 9 offset %d deadline 1 { }", 0, 1000000, "BadNumber", "event"),
+        ("event e spacing 1000000 deadline %d { }", 1, 1000000, "BadNumber", "event"),
+        ("task t { out %d, 1; }", 0, 255, "BadNumber", "out"),
+        ("event e spacing 9 deadline 9 { repeat %d { } }", 0, 1000, "BadNumber", "repeat"),
+        ("event e spacing 9 deadline %d { }", 1, 9, "DeadlineTooLong", "event"),
+        ("int x = %d;", 0, 2147483647, "IntTooLarge", "%d"),
+        ("int x = -%d;", 0, 2147483647, "IntTooLarge", "%d"),
     ]
-    for text, least, most, kind in bounds:
-        refused = (5, b"fault source %s\n" % kind.encode())
+    for text, least, most, kind, named in bounds:
+        refused = (5, b"fault source %s %d\n" % (kind.encode(), text.index(named)))
         for number in (0, 1, least, most, most + 1, 2147483647, 2147483648, 2**32, 2**64, 10**40):
             wanted = 0 if least <= number <= most else refused if number <= most + 1 and number >= least else 5
             tests.look_at_file(f"'{text}' with {number}", run, 1, (text % number).encode(), wanted)
     for size in (31, 32, 250000):
-        wanted = 0 if size <= 31 else (5, b"fault source NameTooLong\n")
+        wanted = 0 if size <= 31 else (5, b"fault source NameTooLong 4\n")
         tests.look_at_file(f"with a name of {size} bytes", run, 1, b"int " + b"n" * size + b" = 0;", wanted)
     # long and deep trees at the limit of length
     sums, brackets, truths = " + 1" * 60000, "(" * 30 + "x" + ")" * 30, " && b" * 50000
