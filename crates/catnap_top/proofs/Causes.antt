@@ -2,11 +2,11 @@
 use Rattle.std.proofs.Common.{◌≡◌, ℕ, ◌≤◌, List, length, map, Option, Some, None, true, false, refl, sym, ap, ◌∙◌, subst, arith, inl, inr}
 use Rattle.cn_base.specs.Causes.{Rose, Rests}
 use Rattle.cn_base.specs.Reading.{Files}
-use Rattle.catnap_top.specs.declared.words.Form.{Form}
+use Rattle.catnap_words.specs.declared.form.Form.{Form}
 use Rattle.catnap_top.specs.declared.status.Status.{Status}
 use Rattle.catnap_top.specs.declared.status.Status.TheVariants.{Usage, ReadFault, WriteFault, NoMemory}
 use Rattle.catnap_top.specs.Answer.{Answer, is_own}
-use Rattle.catnap_top.specs.Words.{form_of, names_of}
+use Rattle.catnap_words.specs.Words.{form_of, names_of}
 use Rattle.catnap_top.specs.Reply.{CallsFor}
 use Rattle.catnap_top.specs.Course.{Outside, of_words, of_files, of_failure, Ends, whole, cut, Answers, answered, gave_up}
 use Rattle.catnap_top.specs.Clauses.{IsComplete, HasCauses, HasAsked, AsksInOrder, none_failed, last_failed}

@@ -3,11 +3,11 @@ use Rattle.std.proofs.Common.{◌≡◌, ℕ, ◌+◌, ◌<◌, ◌≤◌, List,
 use Rattle.std.specs.Prelude.{IfSome}
 use Rattle.std.specs.declared.alloc.Global.{Global}
 use Rattle.cn_base.specs.Reading.{Files, Asked}
-use Rattle.catnap_top.specs.declared.words.Form.{Form}
+use Rattle.catnap_words.specs.declared.form.Form.{Form}
 use Rattle.catnap_top.specs.declared.reading.ReadStop.TheVariants.{Failed, NoMemory}
 use Rattle.catnap_top.specs.declared.status.Status.TheVariants as status
 use Rattle.catnap_top.specs.Answer.{Answer, read_fault}
-use Rattle.catnap_top.specs.Words.{form_of, names_of}
+use Rattle.catnap_words.specs.Words.{form_of, names_of}
 use Rattle.catnap_top.specs.Reply.{CallsFor}
 use Rattle.catnap_top.specs.Reads.{ReadsInOrder, AsksInVain, Asks}
 use Rattle.catnap_top.specs.Course.{outside, IsDue, of_files, of_failure, Answers, gave_up}

@@ -21,8 +21,8 @@ use Rattle.catnap_top.specs.declared.fault.Table.TheVariants as table
 use Rattle.catnap_top.specs.declared.files.ReplayFiles.{ReplayFiles}
 use Rattle.catnap_top.specs.declared.status.Status.{Status}
 use Rattle.catnap_top.specs.declared.status.Status.TheVariants.{Done, LogFull, ReadFault, WriteFault, NoMemory}
-use Rattle.catnap_top.specs.declared.words.Form.{Form}
-use Rattle.catnap_top.specs.declared.words.Form.TheVariants.{Replay}
+use Rattle.catnap_words.specs.declared.form.Form.{Form}
+use Rattle.catnap_words.specs.declared.form.Form.TheVariants.{Replay}
 use Rattle.catnap_top.specs.Answer.{Answer}
 use Rattle.catnap_top.specs.Course.{Outside, Answers, Ends, IsDue, answered, gave_up, cut, of_failure, of_files, of_words, whole}
 use Rattle.catnap_top.specs.Faults.{fault_answer}
@@ -32,7 +32,7 @@ use Rattle.catnap_top.specs.Lives.{Life, Lived, Lives, reported}
 use Rattle.catnap_top.specs.Look.{answer_of}
 use Rattle.catnap_top.specs.Reply.{looks_of, CallsFor}
 use Rattle.catnap_top.specs.Served.{versions_in}
-use Rattle.catnap_top.specs.Words.{names_of}
+use Rattle.catnap_words.specs.Words.{names_of}
 use Rattle.catnap_top.proofs.HeadlineFiles.{LowerLaws, is_checked, is_set_up, plan_facts, tells_files, then_gives}
 use Rattle.catnap_top.proofs.HeadlineRuns.{shows_run}
 use Rattle.catnap_top.proofs.HeadlineText.{ReadsAgain}

@@ -1,8 +1,6 @@
 pub mod AskMore
 pub mod Causes
 pub mod Closing
-pub mod Digits
-pub mod Forms
 pub mod ReadMore
 pub mod Running
 mod Refusing

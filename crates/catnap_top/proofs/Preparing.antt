@@ -3,7 +3,7 @@ use Rattle.std.proofs.Common.{◌≡◌, ℕ, ◌<◌, List, [], length, map, Re
 use Rattle.std.specs.Prelude.{get_or}
 use Rattle.std.specs.declared.alloc.Global.{Global}
 use Rattle.std.proofs.lemmas.List.{get_or-map}
-use Rattle.catnap_top.specs.declared.words.Form.{Form}
+use Rattle.catnap_words.specs.declared.form.Form.{Form}
 use Rattle.catnap_top.specs.declared.reply.Reply.{Reply}
 use Rattle.catnap_top.specs.declared.stop.Stop.{Stop}
 use Rattle.catnap_top.specs.Look.{LooksAs}

@@ -5,8 +5,8 @@ use Rattle.cn_base.specs.Causes.{Rose, Rests}
 use Rattle.cn_base.specs.Reading.{Files}
 use Rattle.catnap_top.specs.declared.status.Status.{Status}
 use Rattle.catnap_top.specs.declared.status.Status.TheVariants.{Usage, ReadFault, WriteFault, NoMemory}
-use Rattle.catnap_top.specs.declared.words.Form.{Form}
-use Rattle.catnap_top.specs.Words.{form_of, names_of}
+use Rattle.catnap_words.specs.declared.form.Form.{Form}
+use Rattle.catnap_words.specs.Words.{form_of, names_of}
 use Rattle.catnap_top.specs.Answer.{Answer, is_own, read_fault}
 use Rattle.catnap_top.specs.Reads.{Asks, AsksInVain}
 use Rattle.catnap_top.specs.Reply.{CallsFor}

@@ -7,8 +7,8 @@ use Rattle.cn_base.specs.Writing.{IsCut}
 use Rattle.catnap_top.specs.declared.status.Status.{Status}
 use Rattle.catnap_top.specs.declared.status.Status.TheVariants.{WriteFault, NoMemory}
 use Rattle.catnap_top.specs.Answer.{Answer, usage, read_fault}
-use Rattle.catnap_top.specs.Words.{form_of, names_of}
-use Rattle.catnap_top.specs.declared.words.Form.{Form}
+use Rattle.catnap_words.specs.Words.{form_of, names_of}
+use Rattle.catnap_words.specs.declared.form.Form.{Form}
 use Rattle.catnap_top.specs.Reply.{CallsFor}
 use Rattle.catnap_top.specs.Reads.{Asks, AsksInVain}
 

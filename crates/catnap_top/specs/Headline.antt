@@ -33,14 +33,14 @@ use Rattle.cn_report.specs.Story.{dropped_text, moment_line, story_text}
 use Rattle.catnap_top.specs.declared.files.ReplayFiles.{ReplayFiles}
 use Rattle.catnap_top.specs.declared.status.Status.{Status}
 use Rattle.catnap_top.specs.declared.status.Status.TheVariants.{Done, LogFull}
-use Rattle.catnap_top.specs.declared.words.Form.TheVariants.{Replay}
+use Rattle.catnap_words.specs.declared.form.Form.TheVariants.{Replay}
 use Rattle.catnap_top.specs.Answer.{Answer}
 use Rattle.catnap_top.specs.Course.{Outside}
 use Rattle.catnap_top.specs.Files.{files_in}
 use Rattle.catnap_top.specs.Lives.{Life, Lives, first_point, reported, status_of}
 use Rattle.catnap_top.specs.Reply.{CallsFor}
 use Rattle.catnap_top.specs.Served.{versions_in}
-use Rattle.catnap_top.specs.Words.{form_of, names_of}
+use Rattle.catnap_words.specs.Words.{form_of, names_of}
 
 -- the program with its arrivals, each of which is handled in the version that is chosen for its event
 abbrev pub run_of : ReplayFiles → Chosen → Setting

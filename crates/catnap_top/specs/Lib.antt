@@ -1,6 +1,5 @@
 pub mod Answer
 pub mod Statuses
-pub mod Words
 pub mod Refusals
 pub mod Places
 pub mod Faults

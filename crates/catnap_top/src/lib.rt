@@ -27,7 +27,6 @@ mod tables;
 mod tests;
 mod top;
 mod versions;
-mod words;
 
 pub use headline::replays_show_runs;
 pub use one::{lives_are_one, one_answer};

@@ -5,7 +5,7 @@ ghost use Rattle.catnap_top.specs.Alike.{Agree, IsSameProgram};
 ghost use Rattle.cat_program.specs.Checked.{Checked};
 ghost use Rattle.nv_memory.specs.declared.device.Device.{Device};
 ghost use Rattle.catnap_top.specs.OneLife.{LivesAreOne};
-ghost use Rattle.catnap_top.specs.declared.words.Form.{Form as TheForm};
+ghost use Rattle.catnap_words.specs.declared.form.Form.{Form as TheForm};
 ghost use Rattle.catnap_top.specs.Answer.{Answer};
 ghost use Rattle.catnap_top.specs.Files.{IsSource, IsProfile};
 ghost use Rattle.catnap_top.specs.Served.{Serves};

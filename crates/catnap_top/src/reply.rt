@@ -1,7 +1,7 @@
 ghost use Rattle.std.specs.Prelude.{◌≡◌, IfOk, length, map};
 ghost use Rattle.cn_base.specs.Causes.{HasCause};
 ghost use Rattle.cn_base.specs.Writing.{Writes};
-ghost use Rattle.catnap_top.specs.Words.{file_count};
+ghost use Rattle.catnap_words.specs.Words.{file_count};
 ghost use Rattle.catnap_top.specs.Look.{LooksAs};
 ghost use Rattle.catnap_top.specs.Reply.{CallsFor, CanBeWritten, looks_of, reply_answer};
 
@@ -17,8 +17,8 @@ use crate::replay::{Replayed, prepare_replay, status_for, write_replay};
 use crate::run::{prepare_run, write_run};
 use crate::selected::Selected;
 use crate::stop::Stop;
-use crate::words::Form;
 use cn_base::{NoMemory, Sink, WriteFail, put};
+use catnap_words::Form;
 use std::alloc::Global;
 
 /// What is to be answered. All memory for it has been taken.

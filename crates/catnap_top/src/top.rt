@@ -1,5 +1,5 @@
 ghost use Rattle.std.specs.Prelude.{◌≡◌};
-ghost use Rattle.catnap_top.specs.Words.{texts};
+ghost use Rattle.catnap_words.specs.Words.{texts};
 ghost use Rattle.catnap_top.specs.Reply.{reply_answer, CanBeWritten};
 ghost use Rattle.catnap_top.specs.Course.{outside, Answers, Ends};
 ghost use Rattle.catnap_top.specs.Clauses.{HasAsked, HasCauses, IsComplete};
@@ -9,7 +9,7 @@ use crate::Status;
 use crate::headline::replays_show_runs;
 use crate::reading::{ReadStop, read_files};
 use crate::reply::{Reply, reply_to};
-use crate::words::{form_in, names_in};
+
 use cn_base::{Inputs, Sink};
 use std::alloc::Global;
 

@@ -5,7 +5,7 @@ use Rattle.cn_base.specs.declared.inputs.ReadFail.TheVariants.{Failed}
 use Rattle.cn_base.specs.Causes.{Rose}
 use Rattle.cn_base.specs.Reading.{IsFront}
 use Rattle.catnap_top.specs.Answer.{most_bytes}
-use Rattle.catnap_top.specs.Words.{texts}
+use Rattle.catnap_words.specs.Words.{texts}
 use Rattle.catnap_top.specs.Reads.{AsksInVain, AreRead}
 use Rattle.catnap_top.proofs.ReadMore.{map_snoc, read_more}
 use Rattle.std.proofs.lemmas.List.{length-map}

@@ -1,0 +1,17 @@
+use super::{Form, form_in, names_in};
+use std::test::Fail;
+
+#[test]
+fn words_ask_for_a_run(rt: HostRuntime) -> Result<(), Fail> {
+    let words = vec![in rt.alloc();
+        String::from_str(rt.alloc(), "run")?,
+        String::from_str(rt.alloc(), "a.cat")?,
+        String::from_str(rt.alloc(), "0020")?,
+    ]?;
+    let Some(form) = form_in(words.as_slice()) else {
+        return Err("no form".into());
+    };
+    assert_eq!(rt; form, Form::Run { steps: 20 });
+    assert_eq!(rt; names_in(words.as_slice(), &form)[0].as_str(), "a.cat");
+    Ok(())
+}
