@@ -13,7 +13,7 @@ use Rattle.harvest_trace.specs.TraceTable.{trace_of}
 use Rattle.harvest_trace.specs.declared.row.TraceRow.{TraceRow}
 use Rattle.nv_memory.specs.declared.device.Device.{Device}
 use Rattle.catnap_words.specs.declared.form.Form.{Form}
-use Rattle.catnap_words.specs.declared.form.Form.TheVariants.{Run, List as Listing, Check, Replay, Bench}
+use Rattle.catnap_words.specs.declared.form.Form.TheVariants.{Run, List as Listing, Check, Plan, Replay, Image, Uplink, Object, Bench}
 use Rattle.catnap_top.specs.declared.refusal.SourceFault.{SourceFault}
 use Rattle.catnap_top.specs.declared.fault.ProfileFault.{ProfileFault}
 use Rattle.catnap_top.specs.declared.fault.ProfileFault.TheVariants as profile

@@ -14,7 +14,7 @@ use Rattle.harvest_trace.specs.declared.row.TraceRow.{TraceRow}
 use Rattle.catnap_top.specs.declared.fault.Table.{Table}
 use Rattle.catnap_top.specs.declared.fault.Table.TheVariants as table
 use Rattle.catnap_words.specs.declared.form.Form.{Form}
-use Rattle.catnap_words.specs.declared.form.Form.TheVariants.{Run, List as Listing, Check, Replay, Bench}
+use Rattle.catnap_words.specs.declared.form.Form.TheVariants.{Run, List as Listing, Check, Plan, Replay, Image, Uplink, Object, Bench}
 use Rattle.catnap_top.specs.declared.fault.Fault.TheVariants as fault
 use Rattle.catnap_top.specs.Answer.{Answer}
 use Rattle.catnap_top.specs.Alike.{AreAlike, Agree, IsSameProgram, AreSameFiles, AreSameLived}

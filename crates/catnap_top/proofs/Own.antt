@@ -1,7 +1,7 @@
 -- The statuses that words and files call for are none of the four that have causes of their own.
 use Rattle.std.proofs.Common.{◌≡◌, ℕ, List, Result, Ok, Err, true, refl, sym, subst}
 use Rattle.catnap_words.specs.declared.form.Form.{Form}
-use Rattle.catnap_words.specs.declared.form.Form.TheVariants.{Run, List as Listing, Check, Replay, Bench}
+use Rattle.catnap_words.specs.declared.form.Form.TheVariants.{Run, List as Listing, Check, Plan, Replay, Image, Uplink, Object, Bench}
 use Rattle.catnap_top.specs.declared.fault.Fault.{Fault}
 use Rattle.catnap_top.specs.declared.fault.Fault.TheVariants as fault
 use Rattle.catnap_top.specs.declared.fault.Table.TheVariants as table

@@ -1,7 +1,7 @@
 -- What the words and the files call for. Each command adds a case to both definitions.
 use Rattle.std.specs.Prelude.{ℕ, List, [], get_or}
 use Rattle.catnap_words.specs.declared.form.Form.{Form}
-use Rattle.catnap_words.specs.declared.form.Form.TheVariants.{Run, List as Listing, Check, Replay, Bench}
+use Rattle.catnap_words.specs.declared.form.Form.TheVariants.{Run, List as Listing, Check, Plan, Replay, Image, Uplink, Object, Bench}
 use Rattle.catnap_top.specs.declared.reply.Reply.{Reply}
 use Rattle.catnap_top.specs.declared.reply.Reply.TheVariants as reply
 use Rattle.catnap_top.specs.Answer.{Answer, usage, read_fault}

@@ -1,5 +1,5 @@
 use Rattle.std.proofs.Common.{◌≡◌, ap, ◌∙◌, subst, arith, length}
-use Rattle.catnap_words.specs.declared.form.Form.TheVariants.{Run, List as Listing, Check, Replay, Bench}
+use Rattle.catnap_words.specs.declared.form.Form.TheVariants.{Run, List as Listing, Check, Plan, Replay, Image, Uplink, Object, Bench}
 use Rattle.catnap_words.specs.Words.{file_count}
 use Rattle.catnap_top.specs.Look.{LooksAs}
 use Rattle.catnap_top.specs.Reply.{reply_answer}
