@@ -1,0 +1,10 @@
+pub mod Lists
+pub mod RoundTrip
+pub mod Files
+pub mod Ranges
+pub mod Bringing
+pub mod Spanning
+pub mod Stuck
+pub mod Acting
+pub mod Programs
+pub mod Coming

@@ -1,0 +1,171 @@
+-- What is spelled is read again.
+use Rattle.std.proofs.Common.{◌≡◌, ℕ, zero, suc, ◌+◌, ◌*◌, ◌%◌, ◌^◌, ◌<◌, ◌≤◌, ℤ, List, [], ◌∷◌, ◌++◌, length, get_or, drop, refl, sym, ◌∙◌, ap, subst, append_assoc, add-one, arith}
+use Rattle.std.specs.Prelude.{FitsSigned}
+use Rattle.std.specs.List.{All, flat_map}
+use Rattle.std.specs.Int.{w16, w32, to_le_bytes, cast_signed, cast_unsigned}
+use Rattle.std.proofs.lemmas.Nat.{from_le_bytes-to_le_bytes_2, from_le_bytes-to_le_bytes_4}
+use Rattle.std.proofs.lemmas.Int.{to_z-of_z}
+use Rattle.std.proofs.Math.Seq.{drop-append_seam}
+use mir.ValLaws as laws
+use Rattle.cat_program.specs.declared.syntax.Operator.TheVariants as o
+use Rattle.cat_program.specs.declared.syntax.Sign.TheVariants as s
+use Rattle.cat_machine.specs.declared.instr.Instr.{Instr}
+use Rattle.cat_machine.specs.declared.instr.Instr.TheVariants as i
+use Rattle.cn_object.specs.declared.parts.Parts.{Parts}
+use Rattle.cn_object.specs.declared.object.Object.{Object}
+use Rattle.cn_object.specs.Spelling.{parts, parts_of, parts_bytes, instr_bytes, word_bytes, task_bytes, tasks_bytes, event_bytes, spelling, IsPlace, HasRoom, IsSmall, IsInRange}
+use Rattle.cn_object.specs.Reading.{short_of, number_of, read_numbers, read_words, read_started, read_event, after_event, read_versions, after_versions, parts_in, instr_in, read_instrs, words_in, count_in, after_words, after_tasks, after_events, after_head, read_object, HasFewParts}
+
+-- ---- elements
+
+pub all_first : {X : Type 0} (P : X → Type 0) (x : X) (xs : List X) → All P (x ∷ xs) → P x
+all_first P x xs h = h 0 x (omega arith)
+
+pub all_rest : {X : Type 0} (P : X → Type 0) (x : X) (xs : List X) → All P (x ∷ xs) → All P xs
+all_rest P x xs h = λ k d l. h (suc k) d (omega arith)
+
+pub word_small : (z : ℤ) → FitsSigned w32 z → cast_unsigned w32 z < 2 ^ 32
+word_small z h = (laws.of_z_fits w32 z h).fits
+
+-- ---- the parts of a file
+
+pub words_spelled : (ws : List ℤ) (rest : List ℕ) → All (FitsSigned w32) ws → read_words (length ws) (flat_map word_bytes ws ++ rest) ≡ ws
+words_spelled [] rest h = refl
+words_spelled (z ∷ ws) rest h =
+    let fits = all_first (FitsSigned w32) z ws h in
+    ap (λ x. cast_signed w32 x ∷ read_words (length ws) (flat_map word_bytes ws ++ rest)) (from_le_bytes-to_le_bytes_4 (cast_unsigned w32 z) (word_small z fits))
+    ∙ ap (λ x. x ∷ read_words (length ws) (flat_map word_bytes ws ++ rest)) (to_z-of_z w32 z fits)
+    ∙ ap (λ xs. z ∷ xs) (words_spelled ws rest (all_rest (FitsSigned w32) z ws h))
+
+pub words_length : (ws : List ℤ) → length (flat_map word_bytes ws) ≡ 4 * length ws
+words_length [] = refl
+words_length (z ∷ ws) = omega (arith, words_length ws)
+
+pub numbers_spelled : (ns : List ℕ) (rest : List ℕ) → All IsPlace ns → read_numbers 4 (length ns) (flat_map (to_le_bytes w32) ns ++ rest) ≡ ns
+numbers_spelled [] rest h = refl
+numbers_spelled (n ∷ ns) rest h =
+    ap (λ x. x ∷ read_numbers 4 (length ns) (flat_map (to_le_bytes w32) ns ++ rest)) (from_le_bytes-to_le_bytes_4 n (all_first IsPlace n ns h))
+    ∙ ap (λ xs. n ∷ xs) (numbers_spelled ns rest (all_rest IsPlace n ns h))
+
+pub numbers_length : (ns : List ℕ) → length (flat_map (to_le_bytes w32) ns) ≡ 4 * length ns
+numbers_length [] = refl
+numbers_length (n ∷ ns) = omega (arith, numbers_length ns)
+
+pub entries_spelled : (started entries rest : List ℕ) → length started ≡ length entries → All IsPlace entries → read_numbers 8 (length entries) (drop 4 (tasks_bytes started entries ++ rest)) ≡ entries
+entries_spelled [] [] rest same h = refl
+entries_spelled [] (e ∷ es) rest same h = absurd (omega (arith, same))
+entries_spelled (n ∷ ns) [] rest same h = refl
+entries_spelled (n ∷ ns) (e ∷ es) rest same h =
+    ap (λ x. x ∷ read_numbers 8 (length es) (drop 4 (tasks_bytes ns es ++ rest))) (from_le_bytes-to_le_bytes_4 e (all_first IsPlace e es h))
+    ∙ ap (λ xs. e ∷ xs) (entries_spelled ns es rest (omega (arith, same)) (all_rest IsPlace e es h))
+
+abbrev pub IsCount : ℕ → Type 0
+IsCount n = n < 2 ^ 16
+
+pub started_spelled : (started entries rest : List ℕ) → length started ≡ length entries → All IsCount started → read_started (length started) (tasks_bytes started entries ++ rest) ≡ started
+started_spelled [] entries rest same h = refl
+started_spelled (n ∷ ns) [] rest same h = absurd (omega (arith, same))
+started_spelled (n ∷ ns) (e ∷ es) rest same h =
+    ap (λ x. x ∷ read_started (length ns) (tasks_bytes ns es ++ rest)) (from_le_bytes-to_le_bytes_2 n (all_first IsCount n ns h))
+    ∙ ap (λ xs. n ∷ xs) (started_spelled ns es rest (omega (arith, same)) (all_rest IsCount n ns h))
+
+pub tasks_length : (started entries : List ℕ) → length started ≡ length entries → length (tasks_bytes started entries) ≡ 8 * length entries
+tasks_length [] [] same = refl
+tasks_length [] (e ∷ es) same = absurd (omega (arith, same))
+tasks_length (n ∷ ns) [] same = absurd (omega (arith, same))
+tasks_length (n ∷ ns) (e ∷ es) same = let k : length ns ≡ length es = omega (arith, same) in omega (arith, tasks_length ns es k)
+
+event_rest : (entries later rest : List ℕ) → (event_bytes entries ++ later) ++ rest ≡ length entries ∷ 0 ∷ 0 ∷ 0 ∷ (flat_map (to_le_bytes w32) entries ++ (later ++ rest))
+event_rest entries later rest = ap (λ xs. length entries ∷ 0 ∷ 0 ∷ 0 ∷ xs) (append_assoc (flat_map (to_le_bytes w32) entries) later rest)
+
+event_spelled : (entries rest : List ℕ) → All IsPlace entries → read_event (length entries ∷ 0 ∷ 0 ∷ 0 ∷ (flat_map (to_le_bytes w32) entries ++ rest)) ≡ entries
+event_spelled entries rest h = numbers_spelled entries rest h
+
+event_passed : (entries rest : List ℕ) → after_event (length entries ∷ 0 ∷ 0 ∷ 0 ∷ (flat_map (to_le_bytes w32) entries ++ rest)) ≡ rest
+event_passed entries rest =
+    let four : 4 + 4 * length entries ≡ suc (suc (suc (suc (4 * length entries)))) = omega arith in
+    ap (λ n. drop n (length entries ∷ 0 ∷ 0 ∷ 0 ∷ (flat_map (to_le_bytes w32) entries ++ rest))) four
+    ∙ ap (λ n. drop n (flat_map (to_le_bytes w32) entries ++ rest)) (sym (numbers_length entries))
+    ∙ drop-append_seam (flat_map (to_le_bytes w32) entries) rest
+
+pub versions_spelled : (vs : List (List ℕ)) (rest : List ℕ) → All (All IsPlace) vs → read_versions (length vs) (flat_map event_bytes vs ++ rest) ≡ vs
+versions_spelled [] rest h = refl
+versions_spelled (v ∷ vs) rest h =
+    ap (λ bs. read_versions (suc (length vs)) bs) (event_rest v (flat_map event_bytes vs) rest)
+    ∙ ap (λ x. x ∷ read_versions (length vs) (after_event (length v ∷ 0 ∷ 0 ∷ 0 ∷ (flat_map (to_le_bytes w32) v ++ (flat_map event_bytes vs ++ rest))))) (event_spelled v (flat_map event_bytes vs ++ rest) (all_first (All IsPlace) v vs h))
+    ∙ ap (λ bs. v ∷ read_versions (length vs) bs) (event_passed v (flat_map event_bytes vs ++ rest))
+    ∙ ap (λ xs. v ∷ xs) (versions_spelled vs rest (all_rest (All IsPlace) v vs h))
+
+pub versions_passed : (vs : List (List ℕ)) (rest : List ℕ) → after_versions (length vs) (flat_map event_bytes vs ++ rest) ≡ rest
+versions_passed [] rest = refl
+versions_passed (v ∷ vs) rest =
+    ap (λ bs. after_versions (suc (length vs)) bs) (event_rest v (flat_map event_bytes vs) rest)
+    ∙ ap (λ bs. after_versions (length vs) bs) (event_passed v (flat_map event_bytes vs ++ rest))
+    ∙ versions_passed vs rest
+
+-- ---- instructions
+
+parts_spelled : (p : Parts) (rest : List ℕ) → p.b < 2 ^ 16 → p.c < 2 ^ 32 → parts_in (parts_bytes p ++ rest) ≡ p
+parts_spelled p rest h k =
+    ap (λ x. parts p.number p.a x (number_of (to_le_bytes w32 p.c ++ rest))) (from_le_bytes-to_le_bytes_2 p.b h)
+    ∙ ap (λ x. parts p.number p.a p.b x) (from_le_bytes-to_le_bytes_4 p.c k)
+
+record AreSmall (p : Parts) : Type 0 where
+  b : p.b < 2 ^ 16
+  c : p.c < 2 ^ 32
+
+parts_small : (x : Instr) → HasRoom x → AreSmall (parts_of x)
+parts_small (i.Push n) h = record { b = omega arith; c = word_small n h }
+parts_small (i.Load w) h = record { b = omega arith; c = omega (arith, h) }
+parts_small i.Payload h = record { b = omega arith; c = omega arith }
+parts_small (i.Signed sign) h = record { b = omega arith; c = omega arith }
+parts_small (i.Operate operator) h = record { b = omega arith; c = omega arith }
+parts_small (i.Jump to) h = record { b = omega arith; c = h }
+parts_small (i.JumpZero to) h = record { b = omega arith; c = h }
+parts_small (i.Turn to) h = record { b = omega arith; c = h }
+parts_small (i.Begin t) h = record { b = omega arith; c = omega arith }
+parts_small i.End h = record { b = omega arith; c = omega arith }
+parts_small (i.LoadAt base len) h = record { b = h.1; c = omega (arith, h.0) }
+parts_small (i.Store w) h = record { b = omega arith; c = omega (arith, h) }
+parts_small (i.StoreAt base len) h = record { b = h.1; c = omega (arith, h.0) }
+parts_small (i.Post t) h = record { b = omega arith; c = omega arith }
+parts_small (i.Out c) h = record { b = omega arith; c = omega arith }
+
+instr_again : (x : Instr) → HasRoom x → instr_in (parts_of x) ≡ x
+instr_again (i.Push n) h = ap i.Push (to_z-of_z w32 n h)
+instr_again (i.Load w) h = ap i.Load (omega (arith, h))
+instr_again i.Payload h = refl
+instr_again (i.Signed s.Neg) h = refl
+instr_again (i.Signed s.Not) h = refl
+instr_again (i.Operate o.Add) h = refl
+instr_again (i.Operate o.Sub) h = refl
+instr_again (i.Operate o.Mul) h = refl
+instr_again (i.Operate o.Div) h = refl
+instr_again (i.Operate o.Rem) h = refl
+instr_again (i.Operate o.Eq) h = refl
+instr_again (i.Operate o.Ne) h = refl
+instr_again (i.Operate o.Lt) h = refl
+instr_again (i.Operate o.Le) h = refl
+instr_again (i.Operate o.Gt) h = refl
+instr_again (i.Operate o.Ge) h = refl
+instr_again (i.Operate o.And) h = refl
+instr_again (i.Operate o.Or) h = refl
+instr_again (i.Jump to) h = refl
+instr_again (i.JumpZero to) h = refl
+instr_again (i.Turn to) h = refl
+instr_again (i.Begin t) h = refl
+instr_again i.End h = refl
+instr_again (i.LoadAt base len) h = let low : base % 2 ^ 16 ≡ base = omega (arith, h.0) in ap (λ b. i.LoadAt b len) low
+instr_again (i.Store w) h = ap i.Store (omega (arith, h))
+instr_again (i.StoreAt base len) h = let low : base % 2 ^ 16 ≡ base = omega (arith, h.0) in ap (λ b. i.StoreAt b len) low
+instr_again (i.Post t) h = refl
+instr_again (i.Out c) h = refl
+
+pub instrs_spelled : (xs : List Instr) (rest : List ℕ) → All HasRoom xs → read_instrs (length xs) (flat_map instr_bytes xs ++ rest) ≡ xs
+instrs_spelled [] rest h = refl
+instrs_spelled (x ∷ xs) rest h =
+    let room = all_first HasRoom x xs h in
+    let small = parts_small x room in
+    ap (λ p. instr_in p ∷ read_instrs (length xs) (flat_map instr_bytes xs ++ rest)) (parts_spelled (parts_of x) (flat_map instr_bytes xs ++ rest) small.b small.c)
+    ∙ ap (λ y. y ∷ read_instrs (length xs) (flat_map instr_bytes xs ++ rest)) (instr_again x room)
+    ∙ ap (λ ys. x ∷ ys) (instrs_spelled xs rest (all_rest HasRoom x xs h))
