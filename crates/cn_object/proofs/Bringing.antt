@@ -147,7 +147,7 @@ summary_depth code n p d xs s h within e =
     let sums : SumsTo (BroughtBy code n p) (One d) = subst (SumsTo (BroughtBy code n p)) e (s.each p within) in
     record { brought = by_brings code n p d sums.0; agreed = λ o b. sums.1 o (brings_by code n p o h b) }
 
-one_of : (P : ℕ → Type 0) (b : Brought) (d : ℕ) → P d → ((o : ℕ) → P o → o ≡ d) → SumsTo P b → b ≡ One d
+pub one_of : (P : ℕ → Type 0) (b : Brought) (d : ℕ) → P d → ((o : ℕ) → P o → o ≡ d) → SumsTo P b → b ≡ One d
 one_of P Nothing d p only s = absurd (s d p)
 one_of P (One a) d p only s = ap One (only a s.0)
 one_of P Several d p only s = absurd (s.4 (only s.0 s.2 ∙ sym (only s.1 s.3)))

@@ -8,3 +8,6 @@ pub mod Stuck
 pub mod Acting
 pub mod Programs
 pub mod Coming
+pub mod Inner
+pub mod Nesting
+pub mod Repeats

@@ -1,12 +1,11 @@
 //! The loops of tasks act in each turn, and those of versions count down.
 
-ghost use Rattle.std.specs.Prelude.{◌≡◌, ◌≤◌, ◌<◌, ◌+◌, ◌↔◌, ℕ, IsTrue, IfOk, MatchOption, length, slice_get, slice_index_or, replicate, false};
-ghost use Rattle.cn_object.specs.Loops.{ActsSoon, TaskLoopsAt, VersionLoopsAt, LoopsAt};
-ghost use Rattle.cn_object.specs.Looping.{AreInner, AreActingSoon, AreComing, noted};
+ghost use Rattle.std.specs.Prelude.{◌≡◌, ◌≤◌, ◌<◌, ◌+◌, ◌↔◌, ℕ, pos, IsTrue, IfOk, MatchOption, length, slice_get, slice_index_or, replicate, false};
+ghost use Rattle.cn_object.specs.Loops.{ActsSoon, GoesTo, IsRepeat, LoopsAt, TaskLoopsAt, TurnsAt, VersionLoopsAt};
+ghost use Rattle.cn_object.specs.Looping.{AllJumpWell, AreActingSoon, AreComing, AreInner, InnerIs, IsLatest, JumpsWell, TakesAboveAt, TurnsWell, latest_of, noted};
 ghost use Rattle.cn_object.specs.Passing.{AreDepths};
 ghost use Rattle.cn_object.specs.declared.depth.Brought.TheVariants as b;
 ghost use Rattle.cn_object.specs.Regions.{versions_begin, AreEntries, HasTargets, RegionAt};
-ghost use Rattle.cn_object.specs.Depths.{StackAt};
 ghost use Rattle.cn_object.specs.Verified.{Everywhere};
 ghost use Rattle.cn_object.specs.Verdict.{FailsFirst};
 
@@ -16,20 +15,13 @@ use crate::operands::target_of;
 use cat_machine::{Code, Instr};
 use std::alloc::{AllocError, Global};
 
-// A turn, and the place to which it goes.
-#[derive(Clone, Copy)]
-pub struct Loop {
-    pub turn: u32,
-    pub end: u32,
-}
-
 /// What a look at the whole code tells of its loops.
 #[derive(Drop)]
 pub struct Survey {
     // Whether from a place on, over instructions that neither jump nor act, the first other one acts.
     pub soon: Vec<bool>,
-    // The innermost loop around each place.
-    pub inner: Vec<Option<Loop>>,
+    // The turn of the innermost loop around each place.
+    pub inner: Vec<Option<u32>>,
     // The places that go to each place.
     pub coming: Vec<Brought>,
 }
@@ -73,27 +65,69 @@ fn acting_soon(alloc: Global, code: &Code) -> Result<Vec<bool>, AllocError>
     Ok(soon)
 }
 
-// Loops that end at a place or before it are closed there.
-fn close(open: &mut Vec<Loop>, pc: u32) {
-    while let Some(last) = open.last() {
-        if pc < last.end {
-            return;
-        }
-        open.pop();
+// The place to which a turn goes.
+fn end_of(code: &Code, turn: u32) -> u32
+    requires { turn < length code.now.instrs }
+    ensures { (end : ℕ) → TurnsAt code.now turn end → result ≡ end }
+{
+    match code.instr(turn) {
+        Instr::Turn(end) => end,
+        _ => 0,
     }
 }
 
-fn inner_loops(alloc: Global, code: &Code) -> Result<Vec<Option<Loop>>, AllocError>
-    ensures { IfOk result (λ inner. AreInner code.now inner.items) }
+// The turn of the innermost loop around a place.
+fn inner_at(inner: &[Option<u32>], pc: u32) -> Option<u32>
+    ensures { result ≡ slice_index_or inner.now pc None }
+{
+    match inner.get(pc as usize) {
+        Some(turn) => *turn,
+        None => None,
+    }
+}
+
+// From the latest turn on outward, the first loop that reaches past a place.
+fn still_around(
+    code: &Code,
+    inner: &[Option<u32>],
+    latest: Option<u32>,
+    pc: u32,
+) -> Option<u32>
+    requires within { pc ≤ length code.now.instrs }
+    requires known { AreInner code.now pc inner.now }
+    requires latest { IsLatest code.now pc latest }
+    ensures { InnerIs code.now pc result }
+{
+    let mut around = latest;
+    while let Some(turn) = around {
+        if pc < end_of(code, turn) {
+            return Some(turn);
+        }
+        around = inner_at(inner, turn);
+    }
+    None
+}
+
+fn latest_of(instr: Instr, pc: u32, around: Option<u32>) -> Option<u32>
+    ensures { result ≡ latest_of instr pc around }
+{
+    match instr {
+        Instr::Turn(_) => Some(pc),
+        _ => around,
+    }
+}
+
+// The turn of the innermost loop around each place.
+fn inner_loops(alloc: Global, code: &Code) -> Result<Vec<Option<u32>>, AllocError>
+    ensures { IfOk result (λ inner. AreInner code.now (length code.now.instrs) inner.items) }
 {
     let mut inner = Vec::new(alloc);
-    let mut open: Vec<Loop> = Vec::new(alloc);
+    let mut latest = None;
     for pc in 0..code.len() {
-        close(&mut open, pc);
-        inner.push(open.last().copied())?;
-        if let Instr::Turn(end) = code.instr(pc) {
-            open.push(Loop { turn: pc, end })?;
-        }
+        let around = still_around(code, &inner, latest, pc);
+        inner.push(around)?;
+        let instr = code.instr(pc);
+        latest = latest_of(instr, pc, around);
     }
     Ok(inner)
 }
@@ -129,7 +163,7 @@ fn coming(alloc: Global, code: &Code) -> Result<Vec<Brought>, AllocError>
 }
 
 pub(crate) fn look_over(alloc: Global, code: &Code) -> Result<Survey, AllocError>
-    ensures { IfOk result (λ survey. AreActingSoon code.now survey.soon.items × AreInner code.now survey.inner.items × AreComing code.now survey.coming.items) }
+    ensures { IfOk result (λ survey. AreActingSoon code.now survey.soon.items × AreInner code.now (length code.now.instrs) survey.inner.items × AreComing code.now survey.coming.items) }
 {
     Ok(Survey {
         soon: acting_soon(alloc, code)?,
@@ -149,26 +183,54 @@ fn task_loops(code: &Code, soon: &[bool], pc: u32) -> bool
     }
 }
 
-// A push of 0 to 1,000 stands just before a turn, and the one jump that goes to it just before the place to which it goes.
-fn is_repeat(code: &Code, survey: &Survey, turn: u32, end: u32) -> bool
-    requires { turn < length code.now.instrs }
+// Whether an instruction pushes 0 to 1,000.
+fn pushes_few(instr: Instr) -> bool
+    ensures { IsTrue result ↔ ((n : ℕ) × (n ≤ 1000) × (instr ≡ Instr.Push (pos n))) }
 {
-    if turn == 0 || end == 0 || end > code.len() {
-        return false;
-    }
-    let pushed = match code.instr(turn - 1) {
+    match instr {
         Instr::Push(n) => 0 <= n && n <= 1000,
         _ => false,
-    };
-    let back = match code.instr(end - 1) {
-        Instr::Jump(to) => to == turn,
+    }
+}
+
+fn is_jump_to(instr: Instr, place: u32) -> bool
+    ensures { IsTrue result ↔ (instr ≡ Instr.Jump place) }
+{
+    match instr {
+        Instr::Jump(to) => to == place,
         _ => false,
-    };
-    pushed && back && has_depth(&survey.coming, turn, end - 1)
+    }
+}
+
+// A push of 0 to 1,000 stands just before a turn, and the one jump that goes to it just before the place to which it goes.
+fn is_repeat(code: &Code, coming: &[Brought], turn: u32, end: u32) -> bool
+    requires within { turn < length code.now.instrs }
+    requires coming { AreComing code.now coming.now }
+    ensures { IsTrue result ↔ IsRepeat code.now turn end }
+{
+    if turn == 0 || end == 0 || code.len() < end {
+        return false;
+    }
+    if !pushes_few(code.instr(turn - 1)) || !is_jump_to(code.instr(end - 1), turn) {
+        return false;
+    }
+    has_depth(coming, turn, end - 1)
+}
+
+fn repeats(code: &Code, coming: &[Brought], pc: u32, instr: Instr) -> bool
+    requires within { pc < length code.now.instrs }
+    requires coming { AreComing code.now coming.now }
+    ensures { IsTrue result ↔ TurnsWell code.now pc instr }
+{
+    match instr {
+        Instr::Turn(end) => is_repeat(code, coming, pc, end),
+        _ => true,
+    }
 }
 
 fn is_turn(code: &Code, pc: u32) -> bool
     requires { pc < length code.now.instrs }
+    ensures { IsTrue result ↔ ((end : ℕ) × TurnsAt code.now pc end) }
 {
     match code.instr(pc) {
         Instr::Turn(_) => true,
@@ -176,14 +238,51 @@ fn is_turn(code: &Code, pc: u32) -> bool
     }
 }
 
-fn inner_turn(survey: &Survey, pc: u32) -> Option<u32> {
-    match survey.inner.get(pc as usize) {
-        Some(Some(inner)) => Some(inner.turn),
-        _ => None,
+fn is_same(a: Option<u32>, b: Option<u32>) -> bool
+    ensures { IsTrue result ↔ (a ≡ b) }
+{
+    match (a, b) {
+        (None, None) => true,
+        (Some(a), Some(b)) => a == b,
+        _ => false,
     }
 }
 
-fn depth_at(depths: &[Brought], pc: u32) -> u32 {
+// A jump goes back to a turn, or on to a place with the same loops around it. The loops before the place are sound, so the
+// innermost one tells of all.
+fn jumps_well(code: &Code, inner: &[Option<u32>], pc: u32, to: u32) -> bool
+    requires within { to < length code.now.instrs }
+    requires goes { GoesTo code.now pc to }
+    requires inner { AreInner code.now (length code.now.instrs) inner.now }
+    requires regions { Everywhere code.now (RegionAt code.now) }
+    requires before { (q : ℕ) → q < pc → LoopsAt code.now q }
+    ensures { IsTrue result ↔ JumpsWell code.now pc to }
+{
+    if to <= pc {
+        return is_turn(code, to);
+    }
+    let there = inner_at(inner, to);
+    let here = inner_at(inner, pc);
+    is_same(there, here)
+}
+
+fn all_jump_well(code: &Code, inner: &[Option<u32>], pc: u32, instr: Instr) -> bool
+    requires is { slice_get code.now.instrs pc ≡ Some instr }
+    requires inner { AreInner code.now (length code.now.instrs) inner.now }
+    requires regions { Everywhere code.now (RegionAt code.now) }
+    requires targets { HasTargets code.now }
+    requires before { (q : ℕ) → q < pc → LoopsAt code.now q }
+    ensures { IsTrue result ↔ AllJumpWell code.now pc instr }
+{
+    match target_of(instr) {
+        Some(to) => jumps_well(code, inner, pc, to),
+        None => true,
+    }
+}
+
+fn depth_at(depths: &[Brought], pc: u32) -> u32
+    ensures { (depth : ℕ) → slice_get depths.now pc ≡ Some (b.One depth) → result ≡ depth }
+{
     match depths.get(pc as usize) {
         Some(Brought::One(depth)) => *depth,
         _ => 0,
@@ -191,50 +290,52 @@ fn depth_at(depths: &[Brought], pc: u32) -> u32 {
 }
 
 // Within a loop, only operands above its counter are taken.
-fn takes_above(survey: &Survey, depths: &[Brought], instr: Instr, pc: u32) -> bool {
-    match inner_turn(survey, pc) {
-        Some(turn) => {
-            u64::from(depth_at(depths, turn)) + u64::from(taken(instr))
-                <= u64::from(depth_at(depths, pc))
-        }
-        None => true,
-    }
+fn takes_above(code: &Code, inner: &[Option<u32>], depths: &[Brought], pc: u32) -> bool
+    requires within { pc < length code.now.instrs }
+    requires inner { AreInner code.now (length code.now.instrs) inner.now }
+    requires depths { AreDepths code.now depths.now }
+    requires regions { Everywhere code.now (RegionAt code.now) }
+    requires before { (q : ℕ) → q < pc → LoopsAt code.now q }
+    ensures { IsTrue result ↔ TakesAboveAt code.now pc }
+{
+    let Some(turn) = inner_at(inner, pc) else {
+        return true;
+    };
+    let taken = taken(code.instr(pc));
+    let under = depth_at(depths, turn);
+    let depth = depth_at(depths, pc);
+    u64::from(under) + u64::from(taken) <= u64::from(depth)
 }
 
 fn version_loops(code: &Code, survey: &Survey, depths: &[Brought], pc: u32) -> bool
     requires within { pc < length code.now.instrs }
-    requires inner { AreInner code.now survey.now.inner.items }
+    requires inner { AreInner code.now (length code.now.instrs) survey.now.inner.items }
     requires coming { AreComing code.now survey.now.coming.items }
     requires depths { AreDepths code.now depths.now }
     requires regions { Everywhere code.now (RegionAt code.now) }
     requires targets { HasTargets code.now }
-    requires stacks { Everywhere code.now (StackAt code.now) }
     requires before { (q : ℕ) → q < pc → LoopsAt code.now q }
     ensures { IsTrue result ↔ VersionLoopsAt code.now pc }
 {
     let instr = code.instr(pc);
-    let jumps = match (instr, target_of(instr)) {
-        (_, Some(to)) if to <= pc => is_turn(code, to),
-        (_, Some(to)) => inner_turn(survey, to) == inner_turn(survey, pc),
-        (_, None) => true,
-    };
-    let repeats = match instr {
-        Instr::Turn(end) => is_repeat(code, survey, pc, end),
-        _ => true,
-    };
-    jumps && repeats && takes_above(survey, depths, instr, pc)
+    if !all_jump_well(code, &survey.inner, pc, instr) {
+        return false;
+    }
+    if !repeats(code, &survey.coming, pc, instr) {
+        return false;
+    }
+    takes_above(code, &survey.inner, depths, pc)
 }
 
 fn loops_at(code: &Code, survey: &Survey, depths: &[Brought], versions: u32, pc: u32) -> bool
     requires within { pc < length code.now.instrs }
     requires versions { versions ≡ versions_begin code.now }
     requires soon { AreActingSoon code.now survey.now.soon.items }
-    requires inner { AreInner code.now survey.now.inner.items }
+    requires inner { AreInner code.now (length code.now.instrs) survey.now.inner.items }
     requires coming { AreComing code.now survey.now.coming.items }
     requires depths { AreDepths code.now depths.now }
     requires regions { Everywhere code.now (RegionAt code.now) }
     requires targets { HasTargets code.now }
-    requires stacks { Everywhere code.now (StackAt code.now) }
     requires before { (q : ℕ) → q < pc → LoopsAt code.now q }
     ensures { IsTrue result ↔ LoopsAt code.now pc }
 {
@@ -256,7 +357,6 @@ pub(crate) fn loop_fault(
     requires entries { AreEntries code.now }
     requires regions { Everywhere code.now (RegionAt code.now) }
     requires targets { HasTargets code.now }
-    requires stacks { Everywhere code.now (StackAt code.now) }
     ensures { IfOk result (λ fault. MatchOption fault (Everywhere code.now (LoopsAt code.now)) (λ place. FailsFirst code.now (LoopsAt code.now) place)) }
 {
     let survey = look_over(alloc, code)?;
