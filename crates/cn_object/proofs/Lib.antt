@@ -11,3 +11,5 @@ pub mod Coming
 pub mod Inner
 pub mod Nesting
 pub mod Repeats
+pub mod Around
+pub mod Ways

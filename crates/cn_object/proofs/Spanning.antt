@@ -178,7 +178,7 @@ first_version code =
     let plain : length code.tasks + 0 ≡ length code.tasks = omega arith in
     unwrap_or-slice_get (version_entries code) 0 (length code.instrs) ∙ same ∙ ap (λ n. slice_index_or (all_entries code) n (length code.instrs)) plain
 
-or_default : (es : List ℕ) (j d : ℕ) → j < length es → slice_index_or es j d ≡ at es j
+pub or_default : (es : List ℕ) (j d : ℕ) → j < length es → slice_index_or es j d ≡ at es j
 or_default es j d h = get_or_from_slice_get es j (at es j) d (slice_get-get_or es j 0 h)
 
 pub version_is_here : (code : CodeValue) (k : ℕ) (span : Span) → Spanning code k span → (pc : ℕ) → span.entry ≤ pc → span.task ≡ None → versions_begin code ≤ pc
@@ -375,3 +375,14 @@ target_exists words tasks count to _ h e = absurd (let none : None ≡ Some to =
 
 pub targets_exist : (words tasks : ℕ) (code : CodeValue) → Everywhere code (OperandsAt words tasks code) → HasTargets code
 targets_exist words tasks code h pc to x is e = target_exists words tasks (length code.instrs) to x (h pc (slice_get_within code.instrs pc x is) x is) e
+
+-- where the versions' code begins, a version does
+pub begins_entry : (code : CodeValue) → versions_begin code < length code.instrs → IsEntry code (versions_begin code)
+begins_entry code h =
+    let es = all_entries code in
+    let at_begin = first_version code in
+    elim (order (length code.tasks) (length es)) [
+      | inl g ↦ (let is = or_default es (length code.tasks) (length code.instrs) g in
+          (length code.tasks, slice_get-get_or es (length code.tasks) 0 g ∙ ap Some (sym (at_begin ∙ is))))
+      | inr g ↦ absurd (let past = sym (unwrap_or-slice_get es (length code.tasks) (length code.instrs)) ∙ ap (λ o. unwrap_or o (length code.instrs)) (slice_get_past es (length code.tasks) g) in omega (arith, h, at_begin, past))
+    ]
