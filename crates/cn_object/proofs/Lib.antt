@@ -13,3 +13,4 @@ pub mod Nesting
 pub mod Repeats
 pub mod Around
 pub mod Ways
+pub mod Counting

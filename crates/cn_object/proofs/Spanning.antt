@@ -386,3 +386,33 @@ begins_entry code h =
           (length code.tasks, slice_get-get_or es (length code.tasks) 0 g ∙ ap Some (sym (at_begin ∙ is))))
       | inr g ↦ absurd (let past = sym (unwrap_or-slice_get es (length code.tasks) (length code.instrs)) ∙ ap (λ o. unwrap_or o (length code.instrs)) (slice_get_past es (length code.tasks) g) in omega (arith, h, at_begin, past))
     ]
+
+-- ---- the entries of versions
+
+version_place : (code : CodeValue) (k entry : ℕ) → slice_get (version_entries code) k ≡ Some entry → slice_get (all_entries code) (length code.tasks + k) ≡ Some entry
+version_place code k entry at =
+    let inside = slice_get_within (version_entries code) k entry at in
+    let long : length (all_entries code) ≡ length code.tasks + length (version_entries code) = length-append code.tasks (version_entries code) in
+    slice_get-get_or (all_entries code) (length code.tasks + k) 0 (omega (arith, inside, long)) ∙ ap Some (get_or-append-add code.tasks (version_entries code) k 0 ∙ get_or_from_slice_get (version_entries code) k entry 0 at)
+
+pub version_is_entry : (code : CodeValue) (k entry : ℕ) → slice_get (version_entries code) k ≡ Some entry → IsEntry code entry
+version_is_entry code k entry at = (length code.tasks + k, version_place code k entry at)
+
+-- a version begins in the versions' code
+pub version_entry_in : (code : CodeValue) (k entry : ℕ) → AreEntries code → slice_get (version_entries code) k ≡ Some entry → (versions_begin code ≤ entry) × (entry < length code.instrs)
+version_entry_in code k entry are at =
+    let es = all_entries code in
+    let place = version_place code k entry at in
+    let inside = slice_get_within es (length code.tasks + k) entry place in
+    let up = upward es (length code.instrs) are (length code.tasks) (length code.tasks + k) (omega arith) inside in
+    let value = get_or_from_slice_get es (length code.tasks + k) entry 0 place in
+    let is = or_default es (length code.tasks) (length code.instrs) (omega (arith, inside)) in
+    (omega (arith, up, value, is, first_version code), are.within (length code.tasks + k) entry place)
+
+pub version_entries_rise : (code : CodeValue) (j k a b : ℕ) → AreEntries code → slice_get (version_entries code) j ≡ Some a → slice_get (version_entries code) k ≡ Some b → j ≤ k → a ≤ b
+version_entries_rise code j k a b are p q h =
+    let es = all_entries code in
+    let left = version_place code j a p in
+    let right = version_place code k b q in
+    let up = upward es (length code.instrs) are (length code.tasks + j) (length code.tasks + k) (omega (arith, h)) (slice_get_within es (length code.tasks + k) b right) in
+    omega (arith, up, get_or_from_slice_get es (length code.tasks + j) a 0 left, get_or_from_slice_get es (length code.tasks + k) b 0 right)

@@ -10,3 +10,4 @@ pub mod Verified
 pub mod Verdict
 pub mod Fitting
 pub mod Running
+pub mod Lengths

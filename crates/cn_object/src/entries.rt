@@ -6,15 +6,25 @@ ghost use Rattle.cn_object.specs.Regions.{AreEntriesOf, AscendBelow, all_entries
 use cat_machine::Code;
 use std::alloc::{AllocError, Global};
 
+/// The entries of all versions, in order.
+pub(crate) fn version_entries(alloc: Global, code: &Code) -> Result<Vec<u32>, AllocError>
+    ensures { IfOk result (λ entries. entries.items ≡ version_entries code.now) }
+{
+    let mut entries = Vec::new(alloc);
+    for event in 0..code.events() {
+        let more = code.versions(event);
+        entries.extend_from_slice(more)?;
+    }
+    Ok(entries)
+}
+
 /// The entries of all tasks, and then of all versions, in order.
 pub(crate) fn all_entries(alloc: Global, code: &Code) -> Result<Vec<u32>, AllocError>
     ensures { IfOk result (λ entries. entries.items ≡ all_entries code.now) }
 {
     let mut entries = code.tasks().to_vec(alloc)?;
-    for event in 0..code.events() {
-        let more = code.versions(event);
-        entries.extend_from_slice(more)?;
-    }
+    let versions = version_entries(alloc, code)?;
+    entries.extend_from_slice(&versions)?;
     Ok(entries)
 }
 

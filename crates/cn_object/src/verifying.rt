@@ -36,7 +36,7 @@ fn code_fault(alloc: Global, code: &Code, words: u32) -> Result<Found, AllocErro
     if let Some(place) = loop_fault(alloc, code, versions, &depths)? {
         return Ok(Some((Kind::Loop, place)));
     }
-    match length_fault(alloc, code, words)? {
+    match length_fault(alloc, code)? {
         Some(place) => Ok(Some((Kind::Long, place))),
         None => Ok(None),
     }

@@ -1,6 +1,6 @@
 use Rattle.std.proofs.Common.{List, ℕ, ◌<◌, length, arith}
 use Rattle.cn_object.proofs.Lists.{flat_goes, version_at_any}
-use Rattle.cn_object.proofs.entries.all_entries.Goals as goal
+use Rattle.cn_object.proofs.entries.version_entries.Goals as goal
 
 pub loop-event-preserved : goal.loop-event-preserved
 loop-event-preserved c =

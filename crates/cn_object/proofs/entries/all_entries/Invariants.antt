@@ -1,7 +1,0 @@
-use Rattle.std.proofs.Common.{ℕ, List, ◌≡◌, ◌++◌, drop}
-use Rattle.std.specs.List.{flat_map}
-use Rattle.cn_object.specs.Regions.{all_entries}
-use Rattle.cn_object.proofs.entries.all_entries.Given as goal
-
-abbrev pub invariant-loop-event : goal.invariant-loop-event
-invariant-loop-event l = l.entries.items ++ flat_map (λ (entries : List ℕ). entries) (drop l.event l.code.versions) ≡ all_entries l.code
