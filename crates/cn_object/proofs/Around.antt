@@ -88,13 +88,16 @@ pub record GoesOn (x : Instr) (pc : ℕ) : Type 0 where
 pub next_same : (code : CodeValue) (pc : ℕ) (x : Instr) → Looped code → slice_get code.instrs pc ≡ Some x → GoesOn x pc → SameLoops code pc (pc + 1)
 next_same code pc x l is on = record {
   each = λ turn end at. (
-    λ b. (omega (arith, b.0), elim (order (pc + 1) end) [
-      | inl h ↦ h
-      | inr h ↦ absurd (let r = repeat_at code turn end l at in
-        let place : r.last ≡ pc = omega (arith, r.just_after, h, b.1) in
-        let jump : x ≡ i.Jump turn = some_same x (i.Jump turn) (sym is ∙ ap (slice_get code.instrs) (sym place) ∙ r.back) in
-        let ahead = on.ahead turn jump in omega (arith, ahead, b.0))
-    ]),
+    λ b. (
+      omega (arith, b.0),
+      elim (order (pc + 1) end) [
+        | inl h ↦ h
+        | inr h ↦ absurd (let r = repeat_at code turn end l at in
+            let place : r.last ≡ pc = omega (arith, r.just_after, h, b.1) in
+            let jump : x ≡ i.Jump turn = some_same x (i.Jump turn) (sym is ∙ ap (slice_get code.instrs) (sym place) ∙ r.back) in
+            let ahead = on.ahead turn jump in omega (arith, ahead, b.0))
+      ],
+    ),
     λ b. (split turn pc (λ h. h) (λ same. absurd (on.no_turn end (some_same x (i.Turn end) (sym is ∙ ap (slice_get code.instrs) (sym same) ∙ at)))) (λ h. absurd (omega (arith, h, b.0))), omega (arith, b.1)),
   );
 }
@@ -133,20 +136,20 @@ turn_inner code pc end l is =
 pub entry_none : (code : CodeValue) (pc : ℕ) → Looped code → IsEntry code pc → InnerIs code pc None
 entry_none code pc l entry =
     λ turn end is b.
-      let low = slice_get_within code.instrs turn (i.Turn end) is in
-      let same = ((l.regions turn low (i.Turn end) is).stays end refl).region pc entry in
-      let before : pc ≤ turn = same.1 (omega (arith, b.1)) in omega (arith, before, b.0)
+    let low = slice_get_within code.instrs turn (i.Turn end) is in
+    let same = ((l.regions turn low (i.Turn end) is).stays end refl).region pc entry in
+    let before : pc ≤ turn = same.1 (omega (arith, b.1)) in omega (arith, before, b.0)
 
 pub end_none : (code : CodeValue) (pc : ℕ) → Looped code → slice_get code.instrs pc ≡ Some i.End → InnerIs code pc None
 end_none code pc l is =
     λ turn end at b.
-      let low = slice_get_within code.instrs turn (i.Turn end) at in
-      let far : end < length code.instrs = l.targets turn end (i.Turn end) at refl in
-      elim ((l.regions pc (slice_get_within code.instrs pc i.End is) i.End is).ends.0 refl) [
-        | inl entry ↦ (let same = ((l.regions turn low (i.Turn end) at).stays end refl).region (pc + 1) entry in
-            let before : pc + 1 ≤ turn = same.1 (omega (arith, b.1)) in omega (arith, before, b.0))
-        | inr whole ↦ omega (arith, whole, far, b.1)
-      ]
+    let low = slice_get_within code.instrs turn (i.Turn end) at in
+    let far : end < length code.instrs = l.targets turn end (i.Turn end) at refl in
+    elim ((l.regions pc (slice_get_within code.instrs pc i.End is) i.End is).ends.0 refl) [
+      | inl entry ↦ (let same = ((l.regions turn low (i.Turn end) at).stays end refl).region (pc + 1) entry in
+          let before : pc + 1 ≤ turn = same.1 (omega (arith, b.1)) in omega (arith, before, b.0))
+      | inr whole ↦ omega (arith, whole, far, b.1)
+    ]
 
 pub inner_same : (code : CodeValue) (pc a b : ℕ) → IsInner code pc a → IsInner code pc b → a ≡ b
 inner_same code pc a b x y = let up = y.last a x.end x.turns x.around in let down = x.last b y.end y.turns y.around in omega (arith, up, down)

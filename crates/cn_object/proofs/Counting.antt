@@ -156,8 +156,8 @@ long_at code lengths entry k sound are at long = λ short.
 pub all_short : (code : CodeValue) (lengths entries : List ℕ) → HasSoundLoops code → AreLengths code 0 lengths → entries ≡ version_entries code → AreShort entries lengths (length entries) → Everywhere code (ShortAt code)
 all_short code lengths entries sound are e short =
     λ pc low k at path h.
-      let here : slice_get entries k ≡ Some pc = ap (λ es. slice_get es k) e ∙ at in
-      short_at code lengths pc k sound are at (short k pc (slice_get_within entries k pc here) here) path h
+    let here : slice_get entries k ≡ Some pc = ap (λ es. slice_get es k) e ∙ at in
+    short_at code lengths pc k sound are at (short k pc (slice_get_within entries k pc here) here) path h
 
 pub first_fails : (code : CodeValue) (lengths entries : List ℕ) (place : ℕ) → HasSoundLoops code → AreLengths code 0 lengths → entries ≡ version_entries code → IsFirstLong entries lengths place → FailsFirst code (ShortAt code) place
 first_fails code lengths entries place sound are e f =

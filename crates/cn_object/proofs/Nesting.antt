@@ -53,10 +53,13 @@ pub same_crosses : (code : CodeValue) (pc to : ℕ) (o : Option ℕ) → Sound c
 same_crosses code pc to None s ahead here there = λ turn end is back. (λ b. absurd (here turn end is b), λ b. absurd (there turn end is b))
 same_crosses code pc to (Some inner) s ahead here there =
     λ turn end is back. (
-      λ b. (omega (arith, b.0, ahead), split turn inner
-      (λ h. let far = nests code pc turn end inner there.end s is there.turns here.around.0 (h, omega (arith, b.1, here.around.0)) in omega (arith, far, there.around.1))
-      (λ same. let e : end ≡ there.end = turns_same code turn end there.end is (subst (λ t. TurnsAt code t there.end) (sym same) there.turns) in omega (arith, e, there.around.1))
-      (λ h. absurd (let low = here.last turn end is b in omega (arith, low, h)))),
+      λ b. (
+        omega (arith, b.0, ahead),
+        split turn inner
+            (λ h. let far = nests code pc turn end inner there.end s is there.turns here.around.0 (h, omega (arith, b.1, here.around.0)) in omega (arith, far, there.around.1))
+            (λ same. let e : end ≡ there.end = turns_same code turn end there.end is (subst (λ t. TurnsAt code t there.end) (sym same) there.turns) in omega (arith, e, there.around.1))
+            (λ h. absurd (let low = here.last turn end is b in omega (arith, low, h))),
+      ),
       λ b. (let low = there.last turn end is b in omega (arith, low, here.around.0), omega (arith, b.1, ahead)),
     )
 
@@ -93,9 +96,9 @@ pub back_turn : (code : CodeValue) (pc to end : ℕ) → Sound code pc → to �
 back_turn code pc to end s low goes at =
     split to pc (λ h. back_crosses code pc to end s h goes at)
     (λ same. absurd (let turn : goes.0 ≡ i.Turn end = some_same goes.0 (i.Turn end) (sym goes.1 ∙ ap (slice_get code.instrs) (sym same) ∙ at) in
-      let to_end : end ≡ to = some_same end to (sym (ap target_of turn) ∙ goes.2) in
-      let ahead = turn_ahead code to end s.regions at in
-      omega (arith, ahead, to_end)))
+    let to_end : end ≡ to = some_same end to (sym (ap target_of turn) ∙ goes.2) in
+    let ahead = turn_ahead code to end s.regions at in
+    omega (arith, ahead, to_end)))
     (λ h. absurd (omega (arith, h, low)))
 
 -- ---- operands
@@ -109,14 +112,14 @@ takes_none code pc none = λ x at turn end under depth is b u d. absurd (none tu
 pub takes_some : (code : CodeValue) (pc inner a d n : ℕ) (x : Instr) → Sound code pc → InnerIs code pc (Some inner) → slice_get code.instrs pc ≡ Some x → n ≡ taken x → IsDepth code inner a → IsDepth code pc d → a + n ≤ d → TakesAboveAt code pc
 takes_some code pc inner a d n x s in_it at size at_turn at_place h =
     λ y other turn end under depth is b u v.
-      let same : x ≡ y = some_same x y (sym at ∙ other) in
-      let takes : n ≡ taken y = size ∙ ap taken same in
-      let deep : depth ≡ d = depth_same code pc depth d v at_place in
-      split turn inner
-      (λ g. let above = (s.turns inner in_it.end in_it.around.0 in_it.turns).above (i.Turn in_it.end) turn end under a in_it.turns is (g, omega (arith, b.1, in_it.around.0)) u at_turn in
-        omega (arith, above, h, takes, deep))
-      (λ e. let low : under ≡ a = depth_same code inner under a (subst (λ t. IsDepth code t under) e u) at_turn in omega (arith, low, h, takes, deep))
-      (λ g. absurd (let low = in_it.last turn end is b in omega (arith, low, g)))
+    let same : x ≡ y = some_same x y (sym at ∙ other) in
+    let takes : n ≡ taken y = size ∙ ap taken same in
+    let deep : depth ≡ d = depth_same code pc depth d v at_place in
+    split turn inner
+    (λ g. let above = (s.turns inner in_it.end in_it.around.0 in_it.turns).above (i.Turn in_it.end) turn end under a in_it.turns is (g, omega (arith, b.1, in_it.around.0)) u at_turn in
+    omega (arith, above, h, takes, deep))
+    (λ e. let low : under ≡ a = depth_same code inner under a (subst (λ t. IsDepth code t under) e u) at_turn in omega (arith, low, h, takes, deep))
+    (λ g. absurd (let low = in_it.last turn end is b in omega (arith, low, g)))
 
 pub takes_back : (code : CodeValue) (pc inner a d n : ℕ) (x : Instr) → InnerIs code pc (Some inner) → slice_get code.instrs pc ≡ Some x → n ≡ taken x → IsDepth code inner a → IsDepth code pc d → TakesAboveAt code pc → a + n ≤ d
 takes_back code pc inner a d n x in_it at size at_turn at_place t =

@@ -159,8 +159,8 @@ module _ (u : Costs) (code : CodeValue) (l : Looped code) where
   opens : (pc : ℕ) (x : Instr) (left : List ℕ) → slice_get code.instrs pc ≡ Some x → opened (turn_follows code pc) x left ≡ counted (pc + 1) left
   opens pc x left is = bool_cases (turn_follows code pc)
       (λ e. let t = turn_here (slice_get code.instrs (pc + 1)) e in
-        let push = turn_pushed code pc t.0 x l is t.1 in
-        ap (λ b. opened b x left) e ∙ ap (λ y. opened true y left) push.2 ∙ sym (counted_yes (pc + 1) pc push.0 t.0 left t.1 refl (is ∙ ap Some push.2)))
+      let push = turn_pushed code pc t.0 x l is t.1 in
+      ap (λ b. opened b x left) e ∙ ap (λ y. opened true y left) push.2 ∙ sym (counted_yes (pc + 1) pc push.0 t.0 left t.1 refl (is ∙ ap Some push.2)))
       (λ e. ap (λ b. opened b x left) e ∙ opened_none x left ∙ sym (counted_no (pc + 1) left (not_turn code (pc + 1) e)))
 
   -- what comes after the jump back of the innermost loop around a place: nothing where there is none
@@ -287,12 +287,12 @@ module _ (u : Costs) (code : CodeValue) (l : Looped code) where
       let next = around_at pc (pc + 1) left r (next_same code pc x l is (straight_on x pc straight)) around in
       bool_cases (turn_follows code pc)
       (λ e. let t = turn_here (slice_get code.instrs (pc + 1)) e in
-        let push = turn_pushed code pc t.0 x l is t.1 in
-        let made = worth_pushed pc push.0 t.0 c (is ∙ ap Some push.2) t.1 w in
-        let left_is : opened (turn_follows code pc) x left ≡ push.0 ∷ left = ap (λ b. opened b x left) e ∙ ap (λ y. opened true y left) push.2 in
-        subst (λ z. Within (pc + 1) z (c + r)) (sym left_is) (subst (λ z. Within (pc + 1) (push.0 ∷ left) (z + r)) (sym made.4) (AtTurn t.0 t.1 made.2 made.3 next)))
+      let push = turn_pushed code pc t.0 x l is t.1 in
+      let made = worth_pushed pc push.0 t.0 c (is ∙ ap Some push.2) t.1 w in
+      let left_is : opened (turn_follows code pc) x left ≡ push.0 ∷ left = ap (λ b. opened b x left) e ∙ ap (λ y. opened true y left) push.2 in
+      subst (λ z. Within (pc + 1) z (c + r)) (sym left_is) (subst (λ z. Within (pc + 1) (push.0 ∷ left) (z + r)) (sym made.4) (AtTurn t.0 t.1 made.2 made.3 next)))
       (λ e. let left_is : opened (turn_follows code pc) x left ≡ left = ap (λ b. opened b x left) e ∙ opened_none x left in
-        subst (λ z. Within (pc + 1) z (c + r)) (sym left_is) (Plain (not_turn code (pc + 1) e) w next))
+      subst (λ z. Within (pc + 1) z (c + r)) (sym left_is) (Plain (not_turn code (pc + 1) e) w next))
 
   plain_step : (pc : ℕ) (left : List ℕ) (x : Instr) (next : ℕ) (later rest : List ℕ) (c r : ℕ) → InVersions code pc → NoTurn code pc → slice_get code.instrs pc ≡ Some x → IsStep pc left x next later → Rest next later rest
       → Worth u code pc c → Around pc left r → u (class_of x) + Sum rest ≤ c + r

@@ -61,13 +61,7 @@ fn length_of(instr: Instr, pc: u32, turns: u32, next: u32, there: u32) -> u64
 {
     match instr {
         Instr::End => 1,
-        Instr::Jump(to) => {
-            if pc < to {
-                1 + u64::from(there)
-            } else {
-                1
-            }
-        }
+        Instr::Jump(to) => { if pc < to { 1 + u64::from(there) } else { 1 } }
         Instr::JumpZero(_) => 1 + u64::from(next.max(there)),
         Instr::Turn(_) => repeated(turns, next, there),
         _ => 1 + u64::from(next),

@@ -87,12 +87,7 @@ fn inner_at(inner: &[Option<u32>], pc: u32) -> Option<u32>
 }
 
 // From the latest turn on outward, the first loop that reaches past a place.
-fn still_around(
-    code: &Code,
-    inner: &[Option<u32>],
-    latest: Option<u32>,
-    pc: u32,
-) -> Option<u32>
+fn still_around(code: &Code, inner: &[Option<u32>], latest: Option<u32>, pc: u32) -> Option<u32>
     requires within { pc ≤ length code.now.instrs }
     requires known { AreInner code.now pc inner.now }
     requires latest { IsLatest code.now pc latest }

@@ -16,8 +16,8 @@ returns c =
     let under : c.depth_at-under.result ≡ at_turn.0 = c.depth_at-under.ensures at_turn.0 at_turn.1 in
     let depth : c.depth_at-depth.result ≡ at_place.0 = c.depth_at-depth.ensures at_place.0 at_place.1 in (
       λ t. let low = leb-true (c.from.result + c.from-2.result) c.from-3.result t in
-        takes_some code c.args.pc turn at_turn.0 at_place.0 c.taken-taken.result c.instr.result (sound_before code c.args.pc c.requires.regions c.requires.before) inner c.instr.ensures c.taken-taken.ensures at_turn.2 at_place.2
-        (omega (arith, low, under, depth, c.from.ensures, c.from-2.ensures, c.from-3.ensures)),
+          takes_some code c.args.pc turn at_turn.0 at_place.0 c.taken-taken.result c.instr.result (sound_before code c.args.pc c.requires.regions c.requires.before) inner c.instr.ensures c.taken-taken.ensures at_turn.2 at_place.2
+          (omega (arith, low, under, depth, c.from.ensures, c.from-2.ensures, c.from-3.ensures)),
       λ a. let low = takes_back code c.args.pc turn at_turn.0 at_place.0 c.taken-taken.result c.instr.result inner c.instr.ensures c.taken-taken.ensures at_turn.2 at_place.2 a in
-        le-leb (c.from.result + c.from-2.result) c.from-3.result (omega (arith, low, under, depth, c.from.ensures, c.from-2.ensures, c.from-3.ensures)),
+          le-leb (c.from.result + c.from-2.result) c.from-3.result (omega (arith, low, under, depth, c.from.ensures, c.from-2.ensures, c.from-3.ensures)),
     )

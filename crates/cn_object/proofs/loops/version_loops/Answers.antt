@@ -12,6 +12,6 @@ returns-then-not-all_jump_well c = (
 pub returns : goal.returns
 returns c = (
   λ t. version_by c.args.code.now c.args.pc c.instr-instr.result c.instr-instr.ensures
-  (few_by c.all_jump_well.result _ c.all_jump_well.ensures c.if-not-all_jump_well.false) (few_by c.repeats.result _ c.repeats.ensures c.if-not-repeats.false) (c.takes_above.ensures.0 t),
+      (few_by c.all_jump_well.result _ c.all_jump_well.ensures c.if-not-all_jump_well.false) (few_by c.repeats.result _ c.repeats.ensures c.if-not-repeats.false) (c.takes_above.ensures.0 t),
   λ v. c.takes_above.ensures.1 (version_takes c.args.code.now c.args.pc v),
 )
