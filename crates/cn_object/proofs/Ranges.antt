@@ -1,6 +1,6 @@
 -- What is read has room, where each byte is one.
 use Rattle.std.proofs.Common.{◌≡◌, ℕ, zero, suc, ◌+◌, ◌*◌, ◌%◌, ◌^◌, ◌<◌, ◌≤◌, ℤ, List, [], ◌∷◌, length, get_or, drop, refl, sym, ◌∙◌, ap, subst, Bool, true, false, add-one, arith}
-use Rattle.std.specs.Prelude.{FitsSigned, slice_index, nat_lt, ◌==◌, if◌then◌else◌}
+use Rattle.std.specs.Prelude.{FitsSigned, min, slice_index, nat_lt, ◌==◌, if◌then◌else◌}
 use Rattle.std.specs.Prelude.{Vec}
 use Rattle.std.specs.Global.{Global}
 use Rattle.cat_machine.specs.CodeValue.{entries_of}
@@ -11,8 +11,8 @@ use mir.ValLaws as laws
 use Rattle.cat_machine.specs.declared.instr.Instr.{Instr}
 use Rattle.cat_machine.specs.declared.instr.Instr.TheVariants as i
 use Rattle.cn_object.specs.declared.parts.Parts.{Parts}
-use Rattle.cn_object.specs.Spelling.{IsPlace, HasRoom, IsInRange, IsSmall}
-use Rattle.cn_object.specs.Reading.{short_of, number_of, read_numbers, read_words, read_started, read_event, after_event, read_versions, after_versions, first_in, other_in, parts_in, instr_in, read_instrs, words_in, tasks_in, events_in, count_in, after_words, after_tasks, after_events, after_head, read_object, AreBytes}
+use Rattle.cn_object.specs.Spelling.{IsPlace, HasRoom, IsInRange, IsSmall, PartsFit, cut, names_word, parts}
+use Rattle.cn_object.specs.Reading.{short_of, number_of, read_numbers, read_words, read_started, read_event, after_event, read_versions, after_versions, first_in, other_in, parts_in, instr_in, read_instrs, read_parts, words_in, tasks_in, events_in, count_in, after_words, after_tasks, after_events, after_head, read_object, AreBytes}
 
 pub bytes_after : (n : ℕ) (bytes : List ℕ) → AreBytes bytes → AreBytes (drop n bytes)
 bytes_after n bytes h = record { each = λ k. let e = get_or-drop n bytes k 0 in omega (arith, h.each (n + k), e) }
@@ -80,9 +80,13 @@ room_in p h = either (nat_lt p.number 5) _ _ (room_first p h) (either (nat_lt p.
 parts_in_range : (bytes : List ℕ) → AreBytes bytes → ArePartsSmall (parts_in bytes)
 parts_in_range bytes h = record { a = h.each 1; b = short_small (drop 2 bytes) (bytes_after 2 bytes h); c = number_small (drop 4 bytes) (bytes_after 4 bytes h) }
 
+cut_small : (b : Bool) (p : Parts) → ArePartsSmall p → ArePartsSmall (if b then parts p.number p.a p.b (min p.c 65535) else p)
+cut_small true p h = record { a = h.a; b = h.b; c = let low : p.c < 2 ^ 32 = h.c in omega (arith, low) }
+cut_small false p h = h
+
 instrs_in_range : (n : ℕ) (bytes : List ℕ) → AreBytes bytes → All HasRoom (read_instrs n bytes)
 instrs_in_range zero bytes h = all_none HasRoom
-instrs_in_range (suc n) bytes h = all_more HasRoom _ _ (room_in (parts_in bytes) (parts_in_range bytes h)) (instrs_in_range n (drop 8 bytes) (bytes_after 8 bytes h))
+instrs_in_range (suc n) bytes h = all_more HasRoom _ _ (room_in (cut (parts_in bytes)) (cut_small (names_word (parts_in bytes).number) (parts_in bytes) (parts_in_range bytes h))) (instrs_in_range n (drop 8 bytes) (bytes_after 8 bytes h))
 
 pub read_in_range : (bytes : List ℕ) → AreBytes bytes → IsInRange (read_object bytes)
 read_in_range bytes h =
@@ -96,6 +100,15 @@ read_in_range bytes h =
       versions = versions_in_range (events_in bytes) (after_tasks bytes) tasks;
       instrs = instrs_in_range (count_in bytes) (after_events bytes) (bytes_after_versions (events_in bytes) (after_tasks bytes) tasks);
     }
+
+parts_fit : (n : ℕ) (bytes : List ℕ) → AreBytes bytes → All PartsFit (read_parts n bytes)
+parts_fit zero bytes h = all_none PartsFit
+parts_fit (suc n) bytes h = all_more PartsFit _ _ ((parts_in_range bytes h).b, (parts_in_range bytes h).c) (parts_fit n (drop 8 bytes) (bytes_after 8 bytes h))
+
+pub read_parts_fit : (bytes : List ℕ) → AreBytes bytes → All PartsFit (read_parts (count_in bytes) (after_events bytes))
+read_parts_fit bytes h =
+    parts_fit (count_in bytes) (after_events bytes)
+    (bytes_after_versions (events_in bytes) (after_tasks bytes) (bytes_after (8 * tasks_in bytes) (after_words bytes) (bytes_after (4 * words_in bytes) (after_head bytes) (bytes_after 12 bytes h))))
 
 -- ---- how many are read
 

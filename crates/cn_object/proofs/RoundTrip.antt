@@ -1,20 +1,23 @@
 -- What is spelled is read again.
 use Rattle.std.proofs.Common.{◌≡◌, ℕ, zero, suc, ◌+◌, ◌*◌, ◌%◌, ◌^◌, ◌<◌, ◌≤◌, ℤ, List, [], ◌∷◌, ◌++◌, length, get_or, drop, refl, sym, ◌∙◌, ap, subst, append_assoc, add-one, arith}
-use Rattle.std.specs.Prelude.{FitsSigned}
+use Rattle.std.specs.Prelude.{FitsSigned, Bool, true, false, map, min, ◌==◌, ◌||◌, if◌then◌else◌}
 use Rattle.std.specs.List.{All, flat_map}
 use Rattle.std.specs.Int.{w16, w32, to_le_bytes, cast_signed, cast_unsigned}
 use Rattle.std.proofs.lemmas.Nat.{from_le_bytes-to_le_bytes_2, from_le_bytes-to_le_bytes_4}
 use Rattle.std.proofs.lemmas.Int.{to_z-of_z}
 use Rattle.std.proofs.Math.Seq.{drop-append_seam}
 use mir.ValLaws as laws
+use Rattle.cat_program.specs.declared.syntax.Operator.{Operator}
 use Rattle.cat_program.specs.declared.syntax.Operator.TheVariants as o
+use Rattle.cat_program.specs.declared.syntax.Sign.{Sign}
 use Rattle.cat_program.specs.declared.syntax.Sign.TheVariants as s
 use Rattle.cat_machine.specs.declared.instr.Instr.{Instr}
 use Rattle.cat_machine.specs.declared.instr.Instr.TheVariants as i
 use Rattle.cn_object.specs.declared.parts.Parts.{Parts}
 use Rattle.cn_object.specs.declared.object.Object.{Object}
-use Rattle.cn_object.specs.Spelling.{parts, parts_of, parts_bytes, instr_bytes, word_bytes, task_bytes, tasks_bytes, event_bytes, spelling, IsPlace, HasRoom, IsSmall, IsInRange}
-use Rattle.cn_object.specs.Reading.{short_of, number_of, read_numbers, read_words, read_started, read_event, after_event, read_versions, after_versions, parts_in, instr_in, read_instrs, words_in, count_in, after_words, after_tasks, after_events, after_head, read_object, HasFewParts}
+use Rattle.cn_object.specs.Spelling.{parts, parts_of, parts_bytes, instr_bytes, word_bytes, task_bytes, tasks_bytes, event_bytes, spelling, IsPlace, HasRoom, IsSmall, IsInRange, operator_number, sign_number, names_word, cut, PartsFit}
+use Rattle.cn_object.specs.Operands.{HasOperands}
+use Rattle.cn_object.specs.Reading.{short_of, number_of, read_numbers, read_words, read_started, read_event, after_event, read_versions, after_versions, parts_in, instr_in, read_instrs, read_parts, AreWhole, words_in, count_in, after_words, after_tasks, after_events, after_head, read_object, HasFewParts}
 
 -- ---- elements
 
@@ -161,11 +164,151 @@ instr_again (i.StoreAt base len) h = let low : base % 2 ^ 16 ≡ base = omega (a
 instr_again (i.Post t) h = refl
 instr_again (i.Out c) h = refl
 
-pub instrs_spelled : (xs : List Instr) (rest : List ℕ) → All HasRoom xs → read_instrs (length xs) (flat_map instr_bytes xs ++ rest) ≡ xs
-instrs_spelled [] rest h = refl
-instrs_spelled (x ∷ xs) rest h =
-    let room = all_first HasRoom x xs h in
-    let small = parts_small x room in
-    ap (λ p. instr_in p ∷ read_instrs (length xs) (flat_map instr_bytes xs ++ rest)) (parts_spelled (parts_of x) (flat_map instr_bytes xs ++ rest) small.b small.c)
-    ∙ ap (λ y. y ∷ read_instrs (length xs) (flat_map instr_bytes xs ++ rest)) (instr_again x room)
-    ∙ ap (λ ys. x ∷ ys) (instrs_spelled xs rest (all_rest HasRoom x xs h))
+cons_head : {X : Type 0} (x y : X) (xs ys : List X) → x ∷ xs ≡ y ∷ ys → x ≡ y
+cons_head x y xs ys e = cc
+
+cons_tail : {X : Type 0} (x y : X) (xs ys : List X) → x ∷ xs ≡ y ∷ ys → xs ≡ ys
+cons_tail x y xs ys e = cc
+
+nil_cons : {X : Type 0} (x : X) (xs : List X) → [] ≡ x ∷ xs → ⊥
+nil_cons x xs e = cc
+
+-- the instructions that are read of parts, up to words that no object has
+pub instrs_read : (ps : List Parts) (xs : List Instr) (rest : List ℕ) → All PartsFit ps → map cut ps ≡ map parts_of xs → All HasRoom xs → read_instrs (length xs) (flat_map parts_bytes ps ++ rest) ≡ xs
+instrs_read [] [] rest fit same room = refl
+instrs_read [] (x ∷ xs) rest fit same room = absurd (nil_cons (parts_of x) (map parts_of xs) same)
+instrs_read (p ∷ ps) [] rest fit same room = absurd (nil_cons (cut p) (map cut ps) (sym same))
+instrs_read (p ∷ ps) (x ∷ xs) rest fit same room =
+    let here = all_first PartsFit p ps fit in
+    let head : cut p ≡ parts_of x = cons_head (cut p) (parts_of x) (map cut ps) (map parts_of xs) same in
+    let tail : map cut ps ≡ map parts_of xs = cons_tail (cut p) (parts_of x) (map cut ps) (map parts_of xs) same in
+    ap (λ q. instr_in (cut q) ∷ read_instrs (length xs) (flat_map parts_bytes ps ++ rest)) (parts_spelled p (flat_map parts_bytes ps ++ rest) here.0 here.1)
+    ∙ ap (λ q. instr_in q ∷ read_instrs (length xs) (flat_map parts_bytes ps ++ rest)) head
+    ∙ ap (λ y. y ∷ read_instrs (length xs) (flat_map parts_bytes ps ++ rest)) (instr_again x (all_first HasRoom x xs room))
+    ∙ ap (λ ys. x ∷ ys) (instrs_read ps xs rest (all_rest PartsFit p ps fit) tail (all_rest HasRoom x xs room))
+
+pub parts_read : (ps : List Parts) (rest : List ℕ) → All PartsFit ps → read_parts (length ps) (flat_map parts_bytes ps ++ rest) ≡ ps
+parts_read [] rest fit = refl
+parts_read (p ∷ ps) rest fit =
+    let here = all_first PartsFit p ps fit in
+    ap (λ q. q ∷ read_parts (length ps) (flat_map parts_bytes ps ++ rest)) (parts_spelled p (flat_map parts_bytes ps ++ rest) here.0 here.1)
+    ∙ ap (λ qs. p ∷ qs) (parts_read ps rest (all_rest PartsFit p ps fit))
+
+all_cons : {X : Type 0} (P : X → Type 0) (x : X) (xs : List X) → P x → All P xs → All P (x ∷ xs)
+all_cons P x xs p h zero d l = p
+all_cons P x xs p h (suc k) d l = h k d (omega (arith, l))
+
+-- parts that are read as instructions are whole
+pub parts_whole : (ps : List Parts) (xs : List Instr) → map cut ps ≡ map parts_of xs → All HasRoom xs → All AreWhole ps
+parts_whole [] xs same room = λ k d low. absurd (omega (arith, low))
+parts_whole (p ∷ ps) [] same room = absurd (nil_cons (cut p) (map cut ps) (sym same))
+parts_whole (p ∷ ps) (x ∷ xs) same room =
+    let head : cut p ≡ parts_of x = cons_head (cut p) (parts_of x) (map cut ps) (map parts_of xs) same in
+    let tail : map cut ps ≡ map parts_of xs = cons_tail (cut p) (parts_of x) (map cut ps) (map parts_of xs) same in
+    let here : AreWhole p = ap (λ q. parts_of (instr_in q)) head ∙ ap parts_of (instr_again x (all_first HasRoom x xs room)) ∙ sym head in
+    all_cons AreWhole p ps here (parts_whole ps xs tail (all_rest HasRoom x xs room))
+
+-- and whole ones are
+pub whole_parts : (n : ℕ) (rest : List ℕ) → All AreWhole (read_parts n rest) → map cut (read_parts n rest) ≡ map parts_of (read_instrs n rest)
+whole_parts zero rest h = refl
+whole_parts (suc n) rest h =
+    let here : AreWhole (parts_in rest) = all_first AreWhole (parts_in rest) (read_parts n (drop 8 rest)) h in
+    ap (λ q. q ∷ map cut (read_parts n (drop 8 rest))) (sym here)
+    ∙ ap (λ qs. parts_of (instr_in (cut (parts_in rest))) ∷ qs) (whole_parts n (drop 8 rest) (all_rest AreWhole (parts_in rest) (read_parts n (drop 8 rest)) h))
+
+-- ---- an instruction's own parts
+
+cut_false : (p : Parts) → names_word p.number ≡ false → cut p ≡ p
+cut_false p e = ap (λ (b : Bool). if b then parts p.number p.a p.b (min p.c 65535) else p) e
+
+cut_true : (p : Parts) → names_word p.number ≡ true → cut p ≡ parts p.number p.a p.b (min p.c 65535)
+cut_true p e = ap (λ (b : Bool). if b then parts p.number p.a p.b (min p.c 65535) else p) e
+
+bool_cases : {P : Type 0} (b : Bool) → (b ≡ true → P) → (b ≡ false → P) → P
+bool_cases true f g = f refl
+bool_cases false f g = g refl
+
+cut_own : (p : Parts) → p.c ≤ 65535 → cut p ≡ p
+cut_own p h = bool_cases (names_word p.number) (λ e. let same : min p.c 65535 ≡ p.c = omega (arith, h) in cut_true p e ∙ ap (λ z. parts p.number p.a p.b z) same) (λ e. cut_false p e)
+
+operator_names : (op : Operator) → names_word (operator_number op) ≡ false
+operator_names o.Add = refl
+operator_names o.Sub = refl
+operator_names o.Mul = refl
+operator_names o.Div = refl
+operator_names o.Rem = refl
+operator_names o.Eq = refl
+operator_names o.Ne = refl
+operator_names o.Lt = refl
+operator_names o.Le = refl
+operator_names o.Gt = refl
+operator_names o.Ge = refl
+operator_names o.And = refl
+operator_names o.Or = refl
+
+sign_names : (sign : Sign) → names_word (sign_number sign) ≡ false
+sign_names s.Neg = refl
+sign_names s.Not = refl
+
+-- an instruction that has room keeps its parts
+cut_of : (x : Instr) → HasRoom x → cut (parts_of x) ≡ parts_of x
+cut_of (i.Push n) h = refl
+cut_of (i.Load w) h = cut_own (parts_of (i.Load w)) (omega (arith, h))
+cut_of i.Payload h = refl
+cut_of (i.Signed sign) h = cut_false (parts_of (i.Signed sign)) (sign_names sign)
+cut_of (i.Operate op) h = cut_false (parts_of (i.Operate op)) (operator_names op)
+cut_of (i.Jump to) h = refl
+cut_of (i.JumpZero to) h = refl
+cut_of (i.Turn to) h = refl
+cut_of (i.Begin t) h = refl
+cut_of i.End h = refl
+cut_of (i.LoadAt base len) h = cut_own (parts_of (i.LoadAt base len)) (let low : base < 2 ^ 16 = h.0 in omega (arith, low))
+cut_of (i.Store w) h = cut_own (parts_of (i.Store w)) (omega (arith, h))
+cut_of (i.StoreAt base len) h = cut_own (parts_of (i.StoreAt base len)) (let low : base < 2 ^ 16 = h.0 in omega (arith, low))
+cut_of (i.Post t) h = refl
+cut_of (i.Out c) h = refl
+
+pub own_parts_cut : (xs : List Instr) → All HasRoom xs → map cut (map parts_of xs) ≡ map parts_of xs
+own_parts_cut [] h = refl
+own_parts_cut (x ∷ xs) h =
+    ap (λ q. q ∷ map cut (map parts_of xs)) (cut_of x (all_first HasRoom x xs h)) ∙ ap (λ qs. parts_of x ∷ qs) (own_parts_cut xs (all_rest HasRoom x xs h))
+
+pub own_parts_fit : (xs : List Instr) → All HasRoom xs → All PartsFit (map parts_of xs)
+own_parts_fit [] h = λ k d low. absurd (omega (arith, low))
+own_parts_fit (x ∷ xs) h =
+    let small = parts_small x (all_first HasRoom x xs h) in
+    all_cons PartsFit (parts_of x) (map parts_of xs) (small.b, small.c) (own_parts_fit xs (all_rest HasRoom x xs h))
+
+pub own_parts_spell : (xs : List Instr) → flat_map parts_bytes (map parts_of xs) ≡ flat_map instr_bytes xs
+own_parts_spell [] = refl
+own_parts_spell (x ∷ xs) = ap (λ bs. parts_bytes (parts_of x) ++ bs) (own_parts_spell xs)
+
+-- words that exist are below those that are cut
+word_low : (words tasks count : ℕ) (x : Instr) → names_word (parts_of x).number ≡ true → words ≤ 1024 → HasOperands words tasks count x → (parts_of x).c < 65535
+word_low words tasks count (i.Load w) e few h = omega (arith, few, h)
+word_low words tasks count (i.Store w) e few h = omega (arith, few, h)
+word_low words tasks count (i.LoadAt base len) e few h = let low : base + len ≤ words = h.1 in omega (arith, few, low)
+word_low words tasks count (i.StoreAt base len) e few h = let low : base + len ≤ words = h.1 in omega (arith, few, low)
+word_low words tasks count (i.Signed sign) e few h = absurd (let clash : false ≡ true = sym (sign_names sign) ∙ e in cc)
+word_low words tasks count (i.Operate op) e few h = absurd (let clash : false ≡ true = sym (operator_names op) ∙ e in cc)
+word_low words tasks count _ e few h = absurd (let clash : false ≡ true = e in cc)
+
+whole_part : (words tasks count : ℕ) (p : Parts) (x : Instr) → words ≤ 1024 → HasOperands words tasks count x → cut p ≡ parts_of x → p ≡ parts_of x
+whole_part words tasks count p x few h e = bool_cases (names_word p.number)
+    (λ t. let same : parts p.number p.a p.b (min p.c 65535) ≡ parts_of x = sym (cut_true p t) ∙ e in
+      let number : p.number ≡ (parts_of x).number = ap (λ (q : Parts). q.number) same in
+      let word : min p.c 65535 ≡ (parts_of x).c = ap (λ (q : Parts). q.c) same in
+      let low = word_low words tasks count x (ap names_word (sym number) ∙ t) few h in
+      let kept : p.c ≡ min p.c 65535 = omega (arith, word, low) in
+      ap (λ z. parts p.number p.a p.b z) kept ∙ same)
+    (λ f. sym (cut_false p f) ∙ e)
+
+pub parts_same : (words tasks count : ℕ) (ps : List Parts) (xs : List Instr) → words ≤ 1024 → All (HasOperands words tasks count) xs → map cut ps ≡ map parts_of xs → flat_map parts_bytes ps ≡ flat_map instr_bytes xs
+parts_same words tasks count [] [] few h same = refl
+parts_same words tasks count [] (x ∷ xs) few h same = absurd (nil_cons (parts_of x) (map parts_of xs) same)
+parts_same words tasks count (p ∷ ps) [] few h same = absurd (nil_cons (cut p) (map cut ps) (sym same))
+parts_same words tasks count (p ∷ ps) (x ∷ xs) few h same =
+    let head : cut p ≡ parts_of x = cons_head (cut p) (parts_of x) (map cut ps) (map parts_of xs) same in
+    let tail : map cut ps ≡ map parts_of xs = cons_tail (cut p) (parts_of x) (map cut ps) (map parts_of xs) same in
+    ap (λ q. parts_bytes q ++ flat_map parts_bytes ps) (whole_part words tasks count p x few (all_first (HasOperands words tasks count) x xs h) head)
+    ∙ ap (λ bs. parts_bytes (parts_of x) ++ bs) (parts_same words tasks count ps xs few (all_rest (HasOperands words tasks count) x xs h) tail)

@@ -1,5 +1,5 @@
 -- What is read from bytes, zeros standing behind the last one.
-use Rattle.std.specs.Prelude.{ℕ, zero, suc, ◌<◌, ◌≤◌, ◌+◌, ◌*◌, ◌%◌, ◌^◌, ℤ, List, [], ◌∷◌, drop, slice_index, nat_lt, ◌==◌, if◌then◌else◌}
+use Rattle.std.specs.Prelude.{◌≡◌, ℕ, zero, suc, ◌<◌, ◌≤◌, ◌+◌, ◌*◌, ◌%◌, ◌^◌, ℤ, List, [], ◌∷◌, drop, slice_index, nat_lt, ◌==◌, if◌then◌else◌}
 use Rattle.std.specs.Int.{w16, w32, from_le_bytes, cast_signed}
 use Rattle.cat_program.specs.declared.syntax.Operator.{Operator}
 use Rattle.cat_program.specs.declared.syntax.Operator.TheVariants as o
@@ -8,7 +8,7 @@ use Rattle.cat_machine.specs.declared.instr.Instr.{Instr}
 use Rattle.cat_machine.specs.declared.instr.Instr.TheVariants as i
 use Rattle.cn_object.specs.declared.object.Object.{Object}
 use Rattle.cn_object.specs.declared.parts.Parts.{Parts}
-use Rattle.cn_object.specs.Spelling.{parts}
+use Rattle.cn_object.specs.Spelling.{cut, parts, parts_of}
 
 abbrev pub short_of : List ℕ → ℕ
 short_of bytes = from_le_bytes w16 (slice_index bytes 0 ∷ slice_index bytes 1 ∷ [])
@@ -69,7 +69,15 @@ parts_in bytes = parts (slice_index bytes 0) (slice_index bytes 1) (short_of (dr
 
 abbrev pub read_instrs : ℕ → List ℕ → List Instr
 read_instrs zero bytes = []
-read_instrs (suc n) bytes = instr_in (parts_in bytes) ∷ read_instrs n (drop 8 bytes)
+read_instrs (suc n) bytes = instr_in (cut (parts_in bytes)) ∷ read_instrs n (drop 8 bytes)
+
+abbrev pub read_parts : ℕ → List ℕ → List Parts
+read_parts zero bytes = []
+read_parts (suc n) bytes = parts_in bytes ∷ read_parts n (drop 8 bytes)
+
+-- the parts are those of an instruction, up to a word that no object has
+abbrev pub AreWhole : Parts → Type 0
+AreWhole p = parts_of (instr_in (cut p)) ≡ cut p
 
 -- ---- the counts, and the parts behind them
 

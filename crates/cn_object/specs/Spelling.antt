@@ -1,5 +1,5 @@
 -- The bytes of an object file.
-use Rattle.std.specs.Prelude.{◌≡◌, ℕ, ◌<◌, ◌≤◌, ◌^◌, ℤ, List, [], ◌∷◌, ◌++◌, length, FitsSigned}
+use Rattle.std.specs.Prelude.{◌≡◌, ℕ, ◌<◌, ◌≤◌, ◌^◌, ◌==◌, ◌||◌, min, if◌then◌else◌, Bool, ℤ, List, [], ◌∷◌, ◌++◌, length, map, FitsSigned}
 use Rattle.std.specs.List.{All, flat_map}
 use Rattle.std.specs.Int.{w16, w32, to_le_bytes, cast_unsigned}
 use Rattle.cat_program.specs.declared.syntax.Operator.{Operator}
@@ -84,13 +84,17 @@ event_bytes entries = length entries ∷ 0 ∷ 0 ∷ 0 ∷ flat_map (to_le_bytes
 abbrev pub head_bytes : ℕ → ℕ → ℕ → ℕ → List ℕ
 head_bytes words tasks events count = 67 ∷ 78 ∷ 79 ∷ 49 ∷ (to_le_bytes w16 words ++ (tasks ∷ events ∷ to_le_bytes w32 count))
 
-abbrev pub spelling : Object → List ℕ
-spelling o =
+-- a file with these bytes for its instructions
+abbrev pub spelled_with : Object → List ℕ → List ℕ
+spelled_with o instrs =
     head_bytes (length o.words) (length o.code.tasks) (length o.code.versions) (length o.code.instrs)
     ++ (flat_map word_bytes o.words
     ++ (tasks_bytes o.started o.code.tasks
     ++ (flat_map event_bytes o.code.versions
-    ++ flat_map instr_bytes o.code.instrs)))
+    ++ instrs)))
+
+abbrev pub spelling : Object → List ℕ
+spelling o = spelled_with o (flat_map instr_bytes o.code.instrs)
 
 -- ---- what can be spelled
 
@@ -137,6 +141,28 @@ pub record IsFileOf (o : Object) (bytes : List ℕ) : Type 0 where
   pub small : IsSmall o
   pub in_range : IsInRange o
   pub spelled : spelling o ≡ bytes
+
+-- ---- words that no object has
+
+-- the instructions of these numbers name a word in c
+abbrev pub names_word : ℕ → Bool
+names_word number = number == 1 || number == 23 || number == 24 || number == 25
+
+-- In a file a word has 32 bits, and in an instruction 16: one beyond 65,535 is read as word 65,535. No object has either.
+abbrev pub cut : Parts → Parts
+cut p = if names_word p.number then parts p.number p.a p.b (min p.c 65535) else p
+
+abbrev pub PartsFit : Parts → Type 0
+PartsFit p = (p.b < 2 ^ 16) × (p.c < 2 ^ 32)
+
+-- the bytes are spelled like the file of an object, but for words that no object has
+pub record IsReadAs (o : Object) (bytes : List ℕ) : Type 0 where
+  pub small : IsSmall o
+  pub in_range : IsInRange o
+  pub spelled_by : List Parts
+  pub fit : All PartsFit spelled_by
+  pub instrs : map cut spelled_by ≡ map parts_of o.code.instrs
+  pub spelled : spelled_with o (flat_map parts_bytes spelled_by) ≡ bytes
 
 -- the object of a program
 abbrev pub program_object : Checked → Object

@@ -6,7 +6,7 @@ use Rattle.cn_object.specs.declared.object.Kind.{Kind}
 use Rattle.cn_object.specs.declared.object.Kind.TheVariants.{Form, Operand, Region, Stack, Loop, Long}
 use Rattle.cn_object.specs.declared.object.ObjectFault.{ObjectFault}
 use Rattle.cn_object.specs.declared.object.ObjectFault.TheVariants.{BadObject, NoMemory}
-use Rattle.cn_object.specs.Spelling.{IsFileOf}
+use Rattle.cn_object.specs.Spelling.{IsFileOf, IsReadAs}
 use Rattle.cn_object.specs.Operands.{OperandsAt}
 use Rattle.cn_object.specs.Regions.{AreEntries, RegionAt}
 use Rattle.cn_object.specs.Depths.{StackAt}
@@ -48,10 +48,10 @@ CodeBreaks words code Stack place = RegionsHold words code × FailsFirst code (S
 CodeBreaks words code Loop place = StacksHold words code × FailsFirst code (LoopsAt code) place
 CodeBreaks words code Long place = LoopsHold words code × FailsFirst code (ShortAt code) place
 
--- the bytes are no object's file, or that of an object whose code breaks a rule
+-- the bytes are read as no object, or as one whose code breaks a rule
 pub data IsBad (bytes : List ℕ) : Kind → ℕ → Type 0 where
-  NoFile : ((o : Object) → ¬ IsFileOf o bytes) → IsBad bytes Form 0
-  Broken : {kind : Kind} {place : ℕ} → (o : Object) → IsFileOf o bytes → CodeBreaks (length o.words) o.code kind place → IsBad bytes kind place
+  NoFile : ((o : Object) → ¬ IsReadAs o bytes) → IsBad bytes Form 0
+  Broken : {kind : Kind} {place : ℕ} → (o : Object) → IsReadAs o bytes → CodeBreaks (length o.words) o.code kind place → IsBad bytes kind place
 
 abbrev pub Refuses : List ℕ → ObjectFault → Type 0
 Refuses bytes (BadObject kind place) = IsBad bytes kind place

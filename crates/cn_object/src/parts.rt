@@ -1,8 +1,8 @@
 //! The numbers that an instruction is spelled by.
 
-ghost use Rattle.std.specs.Prelude.{◌≡◌, ◌%◌, ◌^◌};
-ghost use Rattle.cn_object.specs.Spelling.{operator_number, parts_of, sign_number};
-ghost use Rattle.cn_object.specs.Reading.{first_in, instr_in, operator_in, other_in};
+ghost use Rattle.std.specs.Prelude.{◌≡◌, ◌↔◌, ◌%◌, ◌^◌, IsTrue};
+ghost use Rattle.cn_object.specs.Spelling.{cut, names_word, operator_number, parts_of, sign_number};
+ghost use Rattle.cn_object.specs.Reading.{AreWhole, first_in, instr_in, operator_in, other_in};
 
 use cat_machine::Instr;
 use cat_program::{Operator, Sign};
@@ -142,4 +142,41 @@ pub(crate) fn instr_in(p: Parts) -> Instr
     } else {
         other_in(p)
     }
+}
+
+fn names_word(number: u8) -> bool
+    ensures { result ≡ names_word number }
+{
+    number == 1 || number == 23 || number == 24 || number == 25
+}
+
+/// These numbers with no word beyond 65,535.
+pub(crate) fn cut(p: Parts) -> Parts
+    ensures { result ≡ cut p }
+{
+    if names_word(p.number) {
+        Parts {
+            number: p.number,
+            a: p.a,
+            b: p.b,
+            c: p.c.min(65535),
+        }
+    } else {
+        p
+    }
+}
+
+fn are_same(p: Parts, q: Parts) -> bool
+    ensures { IsTrue result ↔ (p ≡ q) }
+{
+    p.number == q.number && p.a == q.a && p.b == q.b && p.c == q.c
+}
+
+/// Whether these are the numbers of an instruction.
+pub(crate) fn are_whole(p: Parts) -> bool
+    ensures { IsTrue result ↔ AreWhole p }
+{
+    let cut = cut(p);
+    let spelled = parts_of(instr_in(cut));
+    are_same(spelled, cut)
 }

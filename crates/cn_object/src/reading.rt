@@ -1,17 +1,17 @@
-//! The object that bytes are the file of. Whatever they are, they are read as if they were one; the file of what was read is
-//! then compared with them.
+//! The object that bytes are read as. Whatever they are, they are read as if they were a file; what was read is then spelled
+//! again, and compared with them.
 
 ghost use Rattle.std.specs.Prelude.{◌≡◌, ◌≤◌, drop, slice_index, length, IfOk, MatchOption, IsTrue, ◌↔◌};
-ghost use Rattle.std.specs.List.{All};
+ghost use Rattle.std.specs.List.{All, flat_map};
 ghost use Rattle.std.specs.Int.{w32, cast_signed};
 ghost use Rattle.cat_machine.specs.CodeValue.{entries_of};
 ghost use Rattle.cn_object.specs.declared.object.Object.{Object as Program};
-ghost use Rattle.cn_object.specs.Spelling.{HasVersions, IsFileOf};
-ghost use Rattle.cn_object.specs.Reading.{short_of, number_of, read_numbers, read_words, read_started, read_event, after_event, read_versions, after_versions, parts_in, instr_in, read_instrs, words_in, tasks_in, events_in, count_in, read_object, AreBytes, HasFewParts};
+ghost use Rattle.cn_object.specs.Spelling.{HasVersions, IsReadAs, cut, parts_bytes, spelled_with};
+ghost use Rattle.cn_object.specs.Reading.{short_of, number_of, read_numbers, read_words, read_started, read_event, after_event, after_events, read_versions, after_versions, parts_in, instr_in, read_instrs, read_parts, words_in, tasks_in, events_in, count_in, read_object, AreBytes, AreWhole, HasFewParts};
 
 use crate::object::Object;
-use crate::parts::{Parts, instr_in};
-use crate::writing::spelled;
+use crate::parts::{Parts, are_whole, cut, instr_in};
+use crate::writing::spelled_with;
 use cat_machine::{Code, Instr};
 use cn_base::List;
 use std::alloc::{AllocError, Global};
@@ -131,16 +131,45 @@ fn after_versions(bytes: &[u8], n: usize) -> &[u8]
     rest
 }
 
-fn instr(bytes: &[u8]) -> Instr
-    ensures { result ≡ instr_in (parts_in bytes.now) }
+fn parts_in(bytes: &[u8]) -> Parts
+    ensures { result ≡ parts_in bytes.now }
 {
-    let parts = Parts {
+    Parts {
         number: byte(bytes, 0),
         a: byte(bytes, 1),
         b: short(after(bytes, 2)),
         c: number(after(bytes, 4)),
-    };
-    instr_in(parts)
+    }
+}
+
+fn instr(bytes: &[u8]) -> Instr
+    ensures { result ≡ instr_in (cut (parts_in bytes.now)) }
+{
+    instr_in(cut(parts_in(bytes)))
+}
+
+// The numbers of n instructions.
+fn all_parts(alloc: Global, bytes: &[u8], n: usize) -> Result<Vec<Parts>, AllocError>
+    ensures { IfOk result (λ v. v.items ≡ read_parts n bytes.now) }
+{
+    let mut read = Vec::new(alloc);
+    let mut rest = bytes;
+    'items: for _ in 0..n {
+        read.push(parts_in(rest))?;
+        rest = after(rest, 8);
+    }
+    Ok(read)
+}
+
+fn all_whole(all: &[Parts]) -> bool
+    ensures { IsTrue result ↔ All AreWhole all.now }
+{
+    for parts in all {
+        if !are_whole(*parts) {
+            return false;
+        }
+    }
+    true
 }
 
 fn instrs(alloc: Global, bytes: &[u8], n: usize) -> Result<Vec<Instr>, AllocError>
@@ -195,6 +224,14 @@ fn has_few_parts(bytes: &[u8]) -> bool
         && instr_count(bytes) <= 60_000
 }
 
+fn after_events(bytes: &[u8]) -> &[u8]
+    ensures { result.now ≡ after_events bytes.now }
+{
+    let after_words = after(after(bytes, 12), 4 * word_count(bytes));
+    let after_tasks = after(after_words, 8 * task_count(bytes));
+    after_versions(after_tasks, event_count(bytes))
+}
+
 // What is read from bytes whose counts are within the limits.
 fn parts(alloc: Global, bytes: &[u8]) -> Result<Object, AllocError>
     requires { HasFewParts bytes.now }
@@ -234,9 +271,23 @@ fn have_versions(code: &Code) -> bool
     true
 }
 
-/// The object that bytes are the file of, or none.
+// The bytes of an object, with these numbers for its instructions, are the ones that it was read from.
+fn is_again(alloc: Global, object: &Object, all: &[Parts], bytes: &[u8]) -> Result<bool, AllocError>
+    requires words { length object.now.words ≤ 1024 }
+    requires tasks { length object.now.code.tasks ≤ 16 }
+    requires started { length object.now.started ≡ length object.now.code.tasks }
+    requires versions { All HasVersions object.now.code.versions }
+    ensures { IfOk result (λ yes. IsTrue yes ↔ (spelled_with object.now (flat_map parts_bytes all.now) ≡ bytes.now)) }
+{
+    let words = object.words.as_slice();
+    let started = object.started.as_slice();
+    let file = spelled_with(alloc, &object.code, words, started, all)?;
+    Ok(file.as_slice() == bytes)
+}
+
+/// The object that bytes are read as, or none.
 pub(crate) fn read(alloc: Global, bytes: &[u8]) -> Result<Option<Object>, AllocError>
-    ensures { IfOk result (λ read. MatchOption read ((o : Program) → ¬ IsFileOf o bytes.now) (λ o. IsFileOf o bytes.now)) }
+    ensures { IfOk result (λ read. MatchOption read ((o : Program) → ¬ IsReadAs o bytes.now) (λ o. IsReadAs o bytes.now)) }
 {
     are_bytes(bytes);
     if !has_few_parts(bytes) {
@@ -246,15 +297,10 @@ pub(crate) fn read(alloc: Global, bytes: &[u8]) -> Result<Option<Object>, AllocE
     if !have_versions(&object.code) {
         return Ok(None);
     }
-    let file = spelled(
-        alloc,
-        &object.code,
-        object.words.as_slice(),
-        object.started.as_slice(),
-    )?;
-    if file.as_slice() == bytes {
-        Ok(Some(object))
-    } else {
-        Ok(None)
+    let all = all_parts(alloc, after_events(bytes), instr_count(bytes))?;
+    if !all_whole(&all) {
+        return Ok(None);
     }
+    let again = is_again(alloc, &object, &all, bytes)?;
+    if again { Ok(Some(object)) } else { Ok(None) }
 }

@@ -52,6 +52,19 @@ fn a_missing_operand_is_found_where_it_is_wanted(rt: HostRuntime) -> Result<(), 
     Ok(())
 }
 
+// The number of a word has 32 bits in a file, whatever its width in an instruction.
+#[test]
+fn a_word_beyond_all_words_is_no_fault_of_form(rt: HostRuntime) -> Result<(), Fail> {
+    let alloc = rt.alloc();
+    let mut bytes = COUNTER;
+    bytes[38] = 1;
+    assert!(rt; refused(alloc, &bytes, Kind::Operand, 1));
+    let mut bytes = COUNTER;
+    bytes[59] = 1;
+    assert!(rt; refused(alloc, &bytes, Kind::Form, 0));
+    Ok(())
+}
+
 fn file(
     alloc: Global,
     instrs: Vec<Instr>,

@@ -3,22 +3,27 @@
 ghost use Rattle.std.specs.Prelude.{◌≡◌, ◌≤◌, ◌++◌, length, IfOk, OnOk};
 ghost use Rattle.std.specs.List.{All, flat_map};
 ghost use Rattle.cat_machine.specs.Code.{code_of};
-ghost use Rattle.cn_object.specs.Spelling.{HasVersions, IsFileOf, event_bytes, head_bytes, instr_bytes, program_object, spelling, task_bytes, tasks_bytes, word_bytes};
+ghost use Rattle.cn_object.specs.Spelling.{HasVersions, IsFileOf, event_bytes, head_bytes, instr_bytes, parts_bytes, program_object, spelled_with, spelling, task_bytes, tasks_bytes, word_bytes};
 
-use crate::parts::parts_of;
+use crate::parts::{Parts, parts_of};
 use cat_machine::{Code, Instr};
 use cat_program::Program;
 use cn_base::NoMemory;
 use std::alloc::{AllocError, Global};
 
-fn put_instr(out: &mut Vec<u8>, instr: Instr) -> Result<(), AllocError>
-    ensures { OnOk result (out.new.items ≡ out.old.items ++ instr_bytes instr) }
+fn put_parts(out: &mut Vec<u8>, parts: Parts) -> Result<(), AllocError>
+    ensures { OnOk result (out.new.items ≡ out.old.items ++ parts_bytes parts) }
 {
-    let parts = parts_of(instr);
     out.push(parts.number)?;
     out.push(parts.a)?;
     out.extend_from_slice(&parts.b.to_le_bytes())?;
     out.extend_from_slice(&parts.c.to_le_bytes())
+}
+
+fn put_instr(out: &mut Vec<u8>, instr: Instr) -> Result<(), AllocError>
+    ensures { OnOk result (out.new.items ≡ out.old.items ++ instr_bytes instr) }
+{
+    put_parts(out, parts_of(instr))
 }
 
 fn put_words(out: &mut Vec<u8>, words: &[i32]) -> Result<(), AllocError>
@@ -93,6 +98,15 @@ fn put_head(out: &mut Vec<u8>, code: &Code, words: usize) -> Result<(), AllocErr
     Ok(())
 }
 
+fn put_all_parts(out: &mut Vec<u8>, all: &[Parts]) -> Result<(), AllocError>
+    ensures { OnOk result (out.new.items ≡ out.old.items ++ flat_map parts_bytes all.now) }
+{
+    for parts in all {
+        put_parts(out, *parts)?;
+    }
+    Ok(())
+}
+
 /// The bytes of code, of the first values of its words, and of the posts with which its tasks are started.
 pub(crate) fn spelled(
     alloc: Global,
@@ -112,6 +126,29 @@ pub(crate) fn spelled(
     put_tasks(&mut out, started, code.tasks())?;
     put_events(&mut out, code)?;
     put_instrs(&mut out, code)?;
+    Ok(out)
+}
+
+/// The same with other numbers for its instructions.
+pub(crate) fn spelled_with(
+    alloc: Global,
+    code: &Code,
+    words: &[i32],
+    started: &[u16],
+    all: &[Parts],
+) -> Result<Vec<u8>, AllocError>
+    requires words { length words.now ≤ 1024 }
+    requires tasks { length code.now.tasks ≤ 16 }
+    requires started { length started.now ≡ length code.now.tasks }
+    requires versions { All HasVersions code.now.versions }
+    ensures { IfOk result (λ bytes. bytes.items ≡ spelled_with (record { code = code.now; words = words.now; started = started.now }) (flat_map parts_bytes all.now)) }
+{
+    let mut out = Vec::new(alloc);
+    put_head(&mut out, code, words.len())?;
+    put_words(&mut out, words)?;
+    put_tasks(&mut out, started, code.tasks())?;
+    put_events(&mut out, code)?;
+    put_all_parts(&mut out, all)?;
     Ok(out)
 }
 
