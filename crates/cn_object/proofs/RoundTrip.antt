@@ -296,11 +296,11 @@ word_low words tasks count _ e few h = absurd (let clash : false ≡ true = e in
 whole_part : (words tasks count : ℕ) (p : Parts) (x : Instr) → words ≤ 1024 → HasOperands words tasks count x → cut p ≡ parts_of x → p ≡ parts_of x
 whole_part words tasks count p x few h e = bool_cases (names_word p.number)
     (λ t. let same : parts p.number p.a p.b (min p.c 65535) ≡ parts_of x = sym (cut_true p t) ∙ e in
-      let number : p.number ≡ (parts_of x).number = ap (λ (q : Parts). q.number) same in
-      let word : min p.c 65535 ≡ (parts_of x).c = ap (λ (q : Parts). q.c) same in
-      let low = word_low words tasks count x (ap names_word (sym number) ∙ t) few h in
-      let kept : p.c ≡ min p.c 65535 = omega (arith, word, low) in
-      ap (λ z. parts p.number p.a p.b z) kept ∙ same)
+    let number : p.number ≡ (parts_of x).number = ap (λ (q : Parts). q.number) same in
+    let word : min p.c 65535 ≡ (parts_of x).c = ap (λ (q : Parts). q.c) same in
+    let low = word_low words tasks count x (ap names_word (sym number) ∙ t) few h in
+    let kept : p.c ≡ min p.c 65535 = omega (arith, word, low) in
+    ap (λ z. parts p.number p.a p.b z) kept ∙ same)
     (λ f. sym (cut_false p f) ∙ e)
 
 pub parts_same : (words tasks count : ℕ) (ps : List Parts) (xs : List Instr) → words ≤ 1024 → All (HasOperands words tasks count) xs → map cut ps ≡ map parts_of xs → flat_map parts_bytes ps ≡ flat_map instr_bytes xs
