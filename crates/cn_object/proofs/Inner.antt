@@ -32,6 +32,35 @@ abbrev pub outward : Option ℕ → ℕ
 outward None = 0
 outward (Some turn) = turn + 1
 
+-- a loop that ends at a place or before it is around none of the later places
+pub latest_goes : (code : CodeValue) (pc turn : ℕ) (outer : Option ℕ) (l : IsLatestTurn code pc turn) → l.end ≤ pc → InnerIs code turn outer → IsLatest code pc outer
+latest_goes code pc turn None l ended none =
+    λ other far is before. split other turn
+    (λ h. elim (order turn far) [ inl g ↦ absurd (none other far is (h, g)) | inr g ↦ omega (arith, g, l.before) ])
+    (λ same. let e : far ≡ l.end = turns_same code turn far l.end (subst (λ t. TurnsAt code t far) same is) l.turns in omega (arith, e, ended))
+    (λ h. l.past other far is before h)
+latest_goes code pc turn (Some out) l ended inner = record {
+  end = inner.end;
+  turns = inner.turns;
+  before = omega (arith, inner.around.0, l.before);
+  past = λ other far is before above. split other turn
+      (λ h. elim (order turn far) [ inl g ↦ absurd (let low = inner.last other far is (h, g) in omega (arith, low, above)) | inr g ↦ omega (arith, g, l.before) ])
+      (λ same. let e : far ≡ l.end = turns_same code turn far l.end (subst (λ t. TurnsAt code t far) same is) l.turns in omega (arith, e, ended))
+      (λ h. l.past other far is before h);
+}
+
+-- one that reaches past the place is the innermost
+pub latest_is : (code : CodeValue) (pc turn : ℕ) (l : IsLatestTurn code pc turn) → pc < l.end → InnerIs code pc (Some turn)
+latest_is code pc turn l on = record {
+  end = l.end;
+  turns = l.turns;
+  around = (l.before, on);
+  last = λ other far is b. elim (order turn other) [ inl h ↦ absurd (let low = l.past other far is b.0 h in omega (arith, low, b.1)) | inr h ↦ h ];
+}
+
+pub latest_none : (code : CodeValue) (pc : ℕ) → IsLatest code pc None → InnerIs code pc None
+latest_none code pc l = λ turn end is b. let low = l turn end is b.0 in omega (arith, low, b.1)
+
 -- from the innermost loop around a place to the latest turn before the next
 pub latest_next : (code : CodeValue) (pc : ℕ) (x : Instr) (around : Option ℕ) → slice_get code.instrs pc ≡ Some x → InnerIs code pc around → IsLatest code (pc + 1) (latest_of x pc around)
 latest_next code pc (i.Turn end) around is inner = record {
