@@ -3,7 +3,7 @@ use Rattle.std.proofs.Common.{◌≡◌, ℕ, ◌<◌, ◌≤◌, List, [], ◌�
 use Rattle.std.specs.Prelude.{bytes_eq, codes, option_map, if◌then◌else◌}
 use Rattle.std.specs.declared.alloc.Global.{Global}
 use Rattle.catnap_top.specs.declared.words.Form.{Form}
-use Rattle.catnap_top.specs.declared.words.Form.TheVariants.{Run, List as Listing, Check, Replay, Bench}
+use Rattle.catnap_top.specs.declared.words.Form.TheVariants.{Run, List as Listing, Object, Check, Replay, Bench}
 use Rattle.catnap_top.specs.Words.{texts, form_of, most_size, most_steps, number_of}
 
 abbrev form_if : Bool → Form → Option Form
@@ -18,19 +18,23 @@ tested form word command first text test is at said by e =
     ap (λ (b : Bool). form_if b form) same
 
 -- of two words, by the tests of the first
-abbrev pub short_form : Bool → Bool → List ℕ → Option Form
-short_form list bench last = if list then Some Listing else if bench then option_map (λ n. Bench n) (number_of 4 most_size last) else None
+abbrev pub short_form : Bool → Bool → Bool → List ℕ → Option Form
+short_form list object bench last =
+    if list then Some Listing else if object then Some Object else if bench then option_map (λ n. Bench n) (number_of 4 most_size last) else None
 
 short_tested : (command first : String Global) (text last : List ℕ) (test is : Bool) → command ≡ first → text ≡ string_bytes command
-    → test ≡ bytes_eq text (codes "list") → test ≡ is → short_form (bytes_eq (string_bytes first) (codes "list")) (bytes_eq (string_bytes first) (codes "bench")) last ≡ short_form is (bytes_eq text (codes "bench")) last
+    → test ≡ bytes_eq text (codes "list") → test ≡ is
+    → short_form (bytes_eq (string_bytes first) (codes "list")) (bytes_eq (string_bytes first) (codes "object")) (bytes_eq (string_bytes first) (codes "bench")) last
+    ≡ short_form is (bytes_eq text (codes "object")) (bytes_eq text (codes "bench")) last
 short_tested command first text last test is at said by e =
     let same : string_bytes first ≡ text = ap (λ (s : String Global). string_bytes s) (sym at) ∙ sym said in
     let list : bytes_eq (string_bytes first) (codes "list") ≡ is = ap (λ t. bytes_eq t (codes "list")) same ∙ sym by ∙ e in
-    ap (λ (b : Bool). short_form b (bytes_eq (string_bytes first) (codes "bench")) last) list ∙ ap (λ t. short_form is (bytes_eq t (codes "bench")) last) same
+    ap (λ (b : Bool). short_form b (bytes_eq (string_bytes first) (codes "object")) (bytes_eq (string_bytes first) (codes "bench")) last) list
+    ∙ ap (λ t. short_form is (bytes_eq t (codes "object")) (bytes_eq t (codes "bench")) last) same
 
 pub two_words : (words : List (String Global)) (command : String Global) (text : List ℕ) (test is : Bool) → 2 ≤ length words → length words < 3
     → command ≡ get_or words 0 command → text ≡ string_bytes command → test ≡ bytes_eq text (codes "list") → test ≡ is
-    → form_of (texts words) ≡ short_form is (bytes_eq text (codes "bench")) (get_or (texts words) 1 [])
+    → form_of (texts words) ≡ short_form is (bytes_eq text (codes "object")) (bytes_eq text (codes "bench")) (get_or (texts words) 1 [])
 two_words [] command text test is least below at said by e = absurd (omega arith)
 two_words (a ∷ []) command text test is least below at said by e = absurd (omega arith)
 two_words (a ∷ b ∷ []) command text test is least below at said by e = short_tested command a text (string_bytes b) test is at said by e

@@ -14,6 +14,8 @@ pub enum Form {
     Run { steps: u32 },
     /// `list SRC`
     List,
+    /// `object SRC`
+    Object,
     /// `check SRC DEVICE`
     Check,
     /// `replay SRC DEVICE TRACE ARRIVALS FAILS`
@@ -28,7 +30,7 @@ impl Form {
         ensures { result ≡ file_count self.now }
     {
         match self {
-            Form::Run { .. } | Form::List => 1,
+            Form::Run { .. } | Form::List | Form::Object => 1,
             Form::Check => 2,
             Form::Replay => 5,
             Form::Bench { .. } => 0,
@@ -73,6 +75,7 @@ pub fn form_in(words: &[String]) -> Option<Form>
         }
         [command, _, _] if command.as_str() == "check" => Some(Form::Check),
         [command, _] if command.as_str() == "list" => Some(Form::List),
+        [command, _] if command.as_str() == "object" => Some(Form::Object),
         [command, size] if command.as_str() == "bench" => {
             let size = number(size.as_str(), 4, MOST_SIZE)?;
             Some(Form::Bench { size })
