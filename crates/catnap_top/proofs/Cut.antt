@@ -137,6 +137,7 @@ at_place look cut files place =
 looks_cut : (form : Form) (files : List (List ℕ)) → Leads (looks_of form (map front files)) (looks_of form files)
 looks_cut (Run steps) files = then_leads _ _ _ _ (at_place program_in program_cut files 0) (λ p came h. h)
 looks_cut Listing files = then_leads _ _ _ _ (at_place program_in program_cut files 0) (λ p came h. h)
+looks_cut Object files = then_leads _ _ _ _ (at_place program_in program_cut files 0) (λ p came h. h)
 looks_cut Check files =
     then_leads _ _ _ _ (at_place program_in program_cut files 0) (λ p. then_leads _ _ _ _ (at_place device_in device_cut files 1) (λ d came h. h))
 looks_cut Replay files =

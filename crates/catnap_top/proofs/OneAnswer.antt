@@ -30,7 +30,7 @@ use Rattle.catnap_top.proofs.Looks.{by_agree, then_agree, found_agree, comes_to_
 use Rattle.catnap_top.proofs.OneReport.{SameCode, life_agrees, reported_same, summed_same}
 use Rattle.catnap_top.specs.Bench.{summed}
 use Rattle.bench_input.specs.Input.{source_text, profile_text, trace_text, arrivals_text, failures_text}
-use Rattle.catnap_top.proofs.Programs.{SameFirst, SameStep, SameListing, ran_same, listed_same, checked_same}
+use Rattle.catnap_top.proofs.Programs.{SameFirst, SameStep, SameListing, ran_same, listed_same, compiled_same, checked_same}
 
 -- ---- tables
 
@@ -121,6 +121,9 @@ module _ (source : (bytes : List ℕ) → Agree IsSameProgram (IsSource bytes) (
     one_looks Listing files =
         then_agree IsSameProgram (λ a b. a ≡ b) _ _ _ _ (programs (get_or files 0 []))
         (λ p q are. found_agree (λ a b. a ≡ b) _ _ (listed_same listing p q are.same))
+    one_looks Object files =
+        then_agree IsSameProgram (λ a b. a ≡ b) _ _ _ _ (programs (get_or files 0 []))
+        (λ p q are. found_agree (λ a b. a ≡ b) _ _ (compiled_same code p q are.same))
     one_looks Check files =
         then_agree IsSameProgram (λ a b. a ≡ b) _ _ _ _ (programs (get_or files 0 []))
         (λ p q are. then_agree (λ d e. d ≡ e) (λ a b. a ≡ b) _ _ _ _ (devices (get_or files 1 []))

@@ -38,6 +38,7 @@ end_own LogFull = refl
 looks_own : (form : Form) (files : List (List ℕ)) → Finds IsOwn (looks_of form files)
 looks_own (Run steps) files = then_finds IsOwn _ _ (λ p. found_finds IsOwn _ refl)
 looks_own Listing files = then_finds IsOwn _ _ (λ p. found_finds IsOwn _ refl)
+looks_own Object files = then_finds IsOwn _ _ (λ p. found_finds IsOwn _ refl)
 looks_own Replay files = then_finds IsOwn _ _ (λ files. then_finds IsOwn _ _ (λ lived. found_finds IsOwn _ (end_own lived.life.end)))
 looks_own (Bench size) files = then_finds IsOwn _ _ (λ made. then_finds IsOwn _ _ (λ lived. found_finds IsOwn _ (end_own lived.life.end)))
 looks_own Check files = then_finds IsOwn _ _ (λ p. then_finds IsOwn _ _ (λ d. then_finds IsOwn _ _ (λ c. found_finds IsOwn _ refl)))

@@ -16,6 +16,8 @@ use Rattle.same_program.specs.Alike.{StateIsLike, StepIsLike, no_step, step}
 use Rattle.catnap_top.specs.declared.status.Status.TheVariants.{Done}
 use Rattle.catnap_top.specs.Run.{follow, answers, run_text, ran}
 use Rattle.catnap_top.specs.Listed.{listed}
+use Rattle.catnap_top.specs.Object.{compiled, filed}
+use Rattle.cn_object.specs.Spelling.{spelling}
 use Rattle.catnap_top.specs.Check.{checked}
 
 abbrev pub SameFirst : Type 0
@@ -42,6 +44,12 @@ module _ (first : SameFirst) (each : SameStep) (p q : Checked) (same : IsSame p 
 
 pub listed_same : SameListing → (p q : Checked) → IsSame p q → listed p ≡ listed q
 listed_same listing p q same = ap (λ text. record { status = Done; text = text }) (listing p q same)
+
+pub compiled_same : ((p q : Checked) → IsSame p q → code_of p ≡ code_of q) → (p q : Checked) → IsSame p q → compiled p ≡ compiled q
+compiled_same code p q same =
+    ap (λ c. filed (spelling (record { code = c; words = p.words; started = p.started }))) (code p q same)
+    ∙ ap (λ words. filed (spelling (record { code = code_of q; words = words; started = p.started }))) same.words
+    ∙ ap (λ started. filed (spelling (record { code = code_of q; words = q.words; started = started }))) same.started
 
 text_same : (p q : Checked) (c : Chosen) → IsSame p q → chosen_text p c ≡ chosen_text q c
 text_same p q c same =

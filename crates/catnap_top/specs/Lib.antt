@@ -12,6 +12,7 @@ pub mod Run
 pub mod ReadyValue
 pub mod Listed
 pub mod CompiledValue
+pub mod Object
 pub mod Bench
 pub mod Check
 pub mod Replay

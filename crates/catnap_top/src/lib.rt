@@ -9,6 +9,7 @@ mod files;
 mod headline;
 mod line;
 mod list;
+mod object;
 mod one;
 mod places;
 mod profile;

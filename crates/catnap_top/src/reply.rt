@@ -12,6 +12,7 @@ use crate::compiled::Compiled;
 use crate::fault::Fault;
 use crate::line::put_read_fault;
 use crate::list::{prepare_list, write_list};
+use crate::object::{prepare_object, write_file};
 use crate::ready::Ready;
 use crate::replay::{Replayed, prepare_replay, status_for, write_replay};
 use crate::run::{prepare_run, write_run};
@@ -31,6 +32,8 @@ pub enum Reply {
     Refused(Fault),
     Run(Ready),
     List(Compiled),
+    /// The bytes of the object file.
+    Object(Vec<u8>),
     Check(Selected),
     Replay(Replayed),
     Bench { size: u32, replayed: Replayed },
@@ -44,7 +47,7 @@ impl Reply {
             Reply::Usage => Status::Usage,
             Reply::ReadFault(_) => Status::ReadFault,
             Reply::Refused(fault) => fault.status(),
-            Reply::Run(_) | Reply::List(_) | Reply::Check(_) => Status::Done,
+            Reply::Run(_) | Reply::List(_) | Reply::Object(_) | Reply::Check(_) => Status::Done,
             Reply::Replay(replayed) | Reply::Bench { replayed, .. } => status_for(replayed.end),
         }
     }
@@ -60,6 +63,7 @@ impl Reply {
             Reply::Refused(fault) => fault.write(sink),
             Reply::Run(ready) => write_run(sink, ready),
             Reply::List(compiled) => write_list(sink, &compiled),
+            Reply::Object(file) => write_file(sink, file.as_slice()),
             Reply::Check(selected) => write_check(sink, &selected),
             Reply::Replay(replayed) => write_replay(sink, replayed),
             Reply::Bench { size, replayed } => write_bench(sink, size, replayed),
@@ -76,6 +80,7 @@ fn prepare(alloc: Global, form: Form, files: &[Vec<u8>]) -> Result<Reply, Stop>
     match form {
         Form::Run { steps } => prepare_run(alloc, steps, files[0].as_slice()),
         Form::List => prepare_list(alloc, files[0].as_slice()),
+        Form::Object => prepare_object(alloc, files[0].as_slice()),
         Form::Check => prepare_check(alloc, files[0].as_slice(), files[1].as_slice()),
         Form::Replay => prepare_replay(
             alloc,

@@ -61,6 +61,7 @@ fn respond<I: Inputs, K: Sink>(
 /// - `run SRC STEPS`, STEPS being 1 to 7 decimal digits of at most 1,000,000: the `out` lines of the
 ///   first STEPS steps of the source's tasks, or of all that exist, and how many steps these are.
 /// - `list SRC`: the listing of the source's code.
+/// - `object SRC`: the object file of the source's code, its words' first values and its tasks' started posts.
 /// - `check SRC DEVICE`: the versions of least degradation in which the device can serve the source's
 ///   events, with what a job in each takes at most, and the numbers of that choice.
 /// - `replay SRC DEVICE TRACE ARRIVALS FAILS`: the report of the source's life on the device, where the

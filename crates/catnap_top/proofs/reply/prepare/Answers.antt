@@ -5,6 +5,7 @@ use Rattle.catnap_top.specs.Look.{LooksAs}
 use Rattle.catnap_top.specs.Reply.{reply_answer}
 use Rattle.catnap_top.specs.Run.{running}
 use Rattle.catnap_top.specs.Listed.{listing}
+use Rattle.catnap_top.specs.Object.{compiling}
 use Rattle.catnap_top.proofs.Preparing.{contents, file_at, looks_as_form}
 use Rattle.catnap_top.proofs.reply.prepare.Goals as goal
 
@@ -24,6 +25,15 @@ returns-in-List-clause-looks c =
     (subst (λ source. LooksAs reply_answer (listing source) c.prepare_list.result)
     (file_at files 0 c.index-files-0-in-List.result c.as_slice-in-List.result.now (omega arith) c.as_slice-in-List.ensures.value c.index-files-0-in-List.is)
     c.prepare_list.ensures.looks)
+
+pub returns-in-Object-clause-looks : goal.returns-in-Object-clause-looks
+returns-in-Object-clause-looks c =
+    let files = c.args.files.now in
+    let count : length files ≡ 1 = c.requires ∙ ap file_count c.in-Object.is in
+    looks_as_form c.args.form Object (contents files) c.prepare_object.result c.in-Object.is
+    (subst (λ source. LooksAs reply_answer (compiling source) c.prepare_object.result)
+    (file_at files 0 c.index-files-0-in-Object.result c.as_slice-in-Object.result.now (omega arith) c.as_slice-in-Object.ensures.value c.index-files-0-in-Object.is)
+    c.prepare_object.ensures.looks)
 
 pub returns-in-Check-clause-looks : goal.returns-in-Check-clause-looks
 returns-in-Check-clause-looks c =

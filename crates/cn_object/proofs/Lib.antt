@@ -1,0 +1,16 @@
+pub mod Lists
+pub mod RoundTrip
+pub mod Files
+pub mod Ranges
+pub mod Bringing
+pub mod Spanning
+pub mod Stuck
+pub mod Acting
+pub mod Programs
+pub mod Coming
+pub mod Inner
+pub mod Nesting
+pub mod Repeats
+pub mod Around
+pub mod Ways
+pub mod Counting

@@ -1,0 +1,13 @@
+use Rattle.std.proofs.Common.{length, ap, arith}
+use Rattle.cn_object.proofs.Programs.{tasks_counted, versions_had}
+use Rattle.cn_object.proofs.writing.object_of.Goals as goal
+
+pub spelled-requires-clause-tasks : goal.spelled-requires-clause-tasks
+spelled-requires-clause-tasks c = omega (arith, tasks_counted c.args.program.now c.args.code.now c.requires, c.first_words-words.ensures.checked.few_tasks)
+
+pub spelled-requires-clause-started : goal.spelled-requires-clause-started
+spelled-requires-clause-started c =
+    omega (arith, tasks_counted c.args.program.now c.args.code.now c.requires, c.first_words-words.ensures.checked.started, ap length c.first_posts-started.ensures.posts)
+
+pub spelled-requires-clause-versions : goal.spelled-requires-clause-versions
+spelled-requires-clause-versions c = versions_had c.args.program.now c.args.code.now c.requires c.first_words-words.ensures.checked

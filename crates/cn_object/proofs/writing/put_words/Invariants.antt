@@ -1,0 +1,7 @@
+use Rattle.std.proofs.Common.{◌≡◌, ◌++◌, drop}
+use Rattle.std.specs.List.{flat_map}
+use Rattle.cn_object.specs.Spelling.{word_bytes}
+use Rattle.cn_object.proofs.writing.put_words.Given as goal
+
+abbrev pub invariant-loop-word : goal.invariant-loop-word
+invariant-loop-word l = l.out.items ++ flat_map word_bytes (drop l.word-index l.words) ≡ l.fn.out.items ++ flat_map word_bytes l.words

@@ -1,0 +1,13 @@
+pub mod Spelling
+pub mod Reading
+pub mod Operands
+pub mod Regions
+pub mod Depths
+pub mod Passing
+pub mod Loops
+pub mod Looping
+pub mod Verified
+pub mod Verdict
+pub mod Fitting
+pub mod Running
+pub mod Lengths

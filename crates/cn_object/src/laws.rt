@@ -1,0 +1,27 @@
+ghost use Rattle.std.specs.Prelude.{◌≡◌, ℕ, List, Some, length};
+ghost use Rattle.cat_machine.specs.declared.instr.Mode.{Mode as Way};
+ghost use Rattle.cat_machine.specs.CodeValue.{CodeValue};
+ghost use Rattle.cat_machine.specs.Held.{Held};
+ghost use Rattle.cat_machine.specs.Machine.{Stepping, step_of};
+ghost use Rattle.cat_machine.specs.Fits.{ReadyFor};
+ghost use Rattle.cn_object.specs.declared.object.Object.{Object as Program};
+ghost use Rattle.cn_object.specs.Spelling.{IsFileOf};
+ghost use Rattle.cn_object.specs.Fitting.{FitsCode};
+ghost use Rattle.cn_object.specs.Running.{first_of};
+ghost use Rattle.cn_object.specs.Verdict.{IsVerifiedObject};
+
+/// Bytes are the file of one object at most: a law of the definitions.
+pub fn one_object_law()
+    ensures { (a b : Program) (bytes : List ℕ) → IsFileOf a bytes → IsFileOf b bytes → a ≡ b }
+{}
+
+/// Verified code is never stuck: wherever a step may be asked for, the instruction is there, and finds its operands, words and
+/// place. A law of the definitions.
+pub fn never_stuck_law()
+    ensures { (code : CodeValue) (h : Held) (mode : Way) → FitsCode code h → ReadyFor mode code h → (s : Stepping) × (step_of mode code h ≡ Some s) }
+{}
+
+/// The first working state of a verified object fits its code: a law of the definitions.
+pub fn first_fits_law()
+    ensures { (o : Program) → IsVerifiedObject o → length o.started ≡ length o.code.tasks → FitsCode o.code (first_of o) }
+{}
