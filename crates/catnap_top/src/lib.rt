@@ -25,6 +25,7 @@ mod tables;
 #[cfg(test)]
 mod tests;
 mod top;
+mod uplink;
 mod versions;
 mod words;
 

@@ -4,7 +4,6 @@ ghost use Rattle.std.specs.Prelude.{◌≡◌, ◌<◌, ◌≤◌, ℕ, length, 
 ghost use Rattle.std.specs.List.{range_with_len};
 ghost use Rattle.cat_program.specs.declared.outs.LogEntry.{LogEntry as Entry};
 ghost use Rattle.nv_memory.specs.Layout.{size_of};
-ghost use Rattle.checkpoint_slots.specs.Slot.{IsMadeFor};
 ghost use Rattle.nv_log.specs.Record.{record_bytes, IsSpelled};
 ghost use Rattle.recovery.specs.First.{IsFresh};
 ghost use Rattle.recovery.specs.Past.{last_image, past_of};
@@ -42,23 +41,20 @@ fn read_log<B: Board>(
     Ok(log)
 }
 
-/// The committed log that a board holds, which began with the program's first image. It reads the committed slot into `slot`, and
-/// takes memory for the log.
+/// The committed log that a board holds which began with the program's first image. It takes memory for the log.
 pub fn committed_log<B: Board>(
     alloc: Global,
     board: &B,
     layout: &Layout,
     program: &Program,
-    slot: &mut Slot,
 ) -> Result<Outs, NoMemory>
     requires fresh { IsFresh program.now layout.now (B.start (B.origin board.now)).image }
     requires committed { HasCommitted layout.now program.now (last_image (past_of layout.now (B.start (B.origin board.now)) (B.state board.now))) }
-    requires made { IsMadeFor layout.now slot.old }
     ensures log { IfOk result (λ log. log.entries ≡ log_of (past_of layout.now (B.start (B.origin board.now)) (B.state board.now))) }
     ensures few { IfOk result (λ log. length log.entries ≤ 1000000) }
 {
     let _sound = board.entries();
-    let _size = layout.size();
-    recover(board, layout, slot);
+    let mut slot = Slot::with_shape(alloc, layout)?;
+    recover(board, layout, &mut slot);
     read_log(alloc, board, layout, program, slot.len)
 }
