@@ -46,7 +46,11 @@ fn steps_of(alloc: Global, bytes: &[u8]) -> Result<Links, Stop>
 {
     match links(alloc, bytes) {
         Ok(steps) => Ok(steps),
-        Err(LinkFault::BadLink(row, kind)) => Err(Stop::Refused(Fault::Table(Table::Link, row, kind))),
+        Err(LinkFault::BadLink(row, kind)) => Err(Stop::Refused(Fault::Table(
+            Table::Link,
+            row,
+            kind,
+        ))),
         Err(LinkFault::NoMemory) => Err(Stop::NoMemory),
     }
 }
