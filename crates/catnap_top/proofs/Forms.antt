@@ -1,9 +1,9 @@
--- The forms of two, three and six words.
+-- The forms of two, three, six and seven words.
 use Rattle.std.proofs.Common.{◌≡◌, ℕ, ◌<◌, ◌≤◌, List, [], ◌∷◌, length, get_or, Bool, true, false, Option, Some, None, sym, ap, ◌∙◌, arith, string_bytes, String}
 use Rattle.std.specs.Prelude.{bytes_eq, codes, option_map, if◌then◌else◌}
 use Rattle.std.specs.declared.alloc.Global.{Global}
 use Rattle.catnap_top.specs.declared.words.Form.{Form}
-use Rattle.catnap_top.specs.declared.words.Form.TheVariants.{Run, List as Listing, Check, Replay, Bench}
+use Rattle.catnap_top.specs.declared.words.Form.TheVariants.{Run, List as Listing, Check, Replay, Bench, Uplink}
 use Rattle.catnap_top.specs.Words.{texts, form_of, most_size, most_steps, number_of}
 
 abbrev form_if : Bool → Form → Option Form
@@ -80,3 +80,16 @@ check_words (a ∷ b ∷ c ∷ []) command other text also test second is least 
     let check = same_test other a also (codes "check") second is l w n f in
     ap (λ (r : Bool). long_form r (bytes_eq (string_bytes a) (codes "check")) (string_bytes c)) run ∙ ap (λ (k : Bool). form_if k Check) check
 check_words (a ∷ b ∷ c ∷ d ∷ more) command other text also test second is least below at said by e l w n f = absurd (omega arith)
+
+pub seven_words : (words : List (String Global)) (command : String Global) (text : List ℕ) (test is : Bool) → 7 ≤ length words → length words < 8
+    → command ≡ get_or words 0 command → text ≡ string_bytes command → test ≡ bytes_eq text (codes "uplink") → test ≡ is
+    → form_of (texts words) ≡ form_if is Uplink
+seven_words [] command text test is least below at said by e = absurd (omega arith)
+seven_words (a ∷ []) command text test is least below at said by e = absurd (omega arith)
+seven_words (a ∷ b ∷ []) command text test is least below at said by e = absurd (omega arith)
+seven_words (a ∷ b ∷ c ∷ []) command text test is least below at said by e = absurd (omega arith)
+seven_words (a ∷ b ∷ c ∷ d ∷ []) command text test is least below at said by e = absurd (omega arith)
+seven_words (a ∷ b ∷ c ∷ d ∷ f ∷ []) command text test is least below at said by e = absurd (omega arith)
+seven_words (a ∷ b ∷ c ∷ d ∷ f ∷ g ∷ []) command text test is least below at said by e = absurd (omega arith)
+seven_words (a ∷ b ∷ c ∷ d ∷ f ∷ g ∷ h ∷ []) command text test is least below at said by e = tested Uplink (codes "uplink") command a text test is at said by e
+seven_words (a ∷ b ∷ c ∷ d ∷ f ∷ g ∷ h ∷ k ∷ more) command text test is least below at said by e = absurd (omega arith)

@@ -26,3 +26,4 @@ pub mod HeadlineDeadlines
 pub mod HeadlineRuns
 pub mod HeadlineAnswer
 pub mod OneLife
+pub mod Sending

@@ -18,6 +18,8 @@ pub mod Check
 pub mod Replay
 pub mod Replayed
 pub mod Lives
+pub mod Uplink
+pub mod Uplinked
 pub mod SelectedValue
 pub mod Reply
 pub mod Reads

@@ -1,7 +1,7 @@
 -- What the words and the files call for. Each command adds a case to both definitions.
 use Rattle.std.specs.Prelude.{ℕ, List, [], get_or}
 use Rattle.catnap_top.specs.declared.words.Form.{Form}
-use Rattle.catnap_top.specs.declared.words.Form.TheVariants.{Run, List as Listing, Check, Replay, Bench}
+use Rattle.catnap_top.specs.declared.words.Form.TheVariants.{Run, List as Listing, Check, Replay, Bench, Uplink}
 use Rattle.catnap_top.specs.declared.reply.Reply.{Reply}
 use Rattle.catnap_top.specs.declared.reply.Reply.TheVariants as reply
 use Rattle.catnap_top.specs.Answer.{Answer, usage, read_fault}
@@ -14,6 +14,8 @@ use Rattle.catnap_top.specs.Check.{checking, checked}
 use Rattle.catnap_top.specs.Replay.{replaying}
 use Rattle.catnap_top.specs.Replayed.{lived_of, replayed_answer, IsReadyToTell}
 use Rattle.catnap_top.specs.Bench.{benching, summed}
+use Rattle.catnap_top.specs.Uplink.{uplinking}
+use Rattle.catnap_top.specs.Uplinked.{uplinked_answer}
 
 -- the looks of a form at the bytes of its files in order
 abbrev pub looks_of : Form → List (List ℕ) → Look Answer
@@ -22,6 +24,8 @@ looks_of Listing files = listing (get_or files 0 [])
 looks_of Check files = checking (get_or files 0 []) (get_or files 1 [])
 looks_of Replay files = replaying (get_or files 0 []) (get_or files 1 []) (get_or files 2 []) (get_or files 3 []) (get_or files 4 [])
 looks_of (Bench size) files = benching size
+looks_of Uplink files =
+    uplinking (get_or files 0 []) (get_or files 1 []) (get_or files 2 []) (get_or files 3 []) (get_or files 4 []) (get_or files 5 [])
 
 -- the answer to a form over the bytes of its files in order
 abbrev pub CallsFor : Form → List (List ℕ) → Answer → Type 0
@@ -37,6 +41,7 @@ reply_answer (reply.List compiled) = listed compiled.program
 reply_answer (reply.Check selected) = checked selected.program selected.chosen
 reply_answer (reply.Replay replayed) = replayed_answer replayed
 reply_answer (reply.Bench size replayed) = summed size (lived_of replayed)
+reply_answer (reply.Uplink uplinked) = uplinked_answer uplinked
 
 -- what has to be true for it to be written
 abbrev pub CanBeWritten : Reply → Type 0

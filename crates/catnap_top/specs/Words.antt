@@ -2,7 +2,7 @@
 use Rattle.std.specs.Prelude.{ℕ, ◌+◌, ◌-◌, ◌*◌, List, [], ◌∷◌, length, Bool, true, ◌&&◌, nat_le, Option, Some, None, option_map, bytes_eq, codes, map, take, drop, string_bytes, String, if◌then◌else◌}
 use Rattle.std.specs.declared.alloc.Global.{Global}
 use Rattle.catnap_top.specs.declared.words.Form.{Form}
-use Rattle.catnap_top.specs.declared.words.Form.TheVariants.{Run, List as Listing, Check, Replay, Bench}
+use Rattle.catnap_top.specs.declared.words.Form.TheVariants.{Run, List as Listing, Check, Replay, Bench, Uplink}
 
 -- the bytes of each word
 abbrev pub texts : List (String Global) → List (List ℕ)
@@ -32,7 +32,7 @@ abbrev pub most_size : ℕ
 most_size = 1665
 
 -- `run SRC STEPS`, STEPS having 1 to 7 digits; `list SRC`; `check SRC DEVICE`; `replay SRC DEVICE TRACE ARRIVALS FAILS`; `bench N`, N having
--- 1 to 4 digits
+-- 1 to 4 digits; `uplink SRC DEVICE TRACE ARRIVALS FAILS LINK`
 abbrev pub form_of : List (List ℕ) → Option Form
 form_of (command ∷ source ∷ last ∷ []) =
     if bytes_eq command (codes "run") then option_map (λ n. Run n) (number_of 7 most_steps last)
@@ -41,6 +41,7 @@ form_of (command ∷ last ∷ []) =
     if bytes_eq command (codes "list") then Some Listing
     else if bytes_eq command (codes "bench") then option_map (λ n. Bench n) (number_of 4 most_size last) else None
 form_of (command ∷ source ∷ device ∷ trace ∷ arrivals ∷ failures ∷ []) = if bytes_eq command (codes "replay") then Some Replay else None
+form_of (command ∷ source ∷ device ∷ trace ∷ arrivals ∷ failures ∷ link ∷ []) = if bytes_eq command (codes "uplink") then Some Uplink else None
 form_of _ = None
 
 -- how many words after the first name files
@@ -50,6 +51,7 @@ file_count Listing = 1
 file_count Check = 2
 file_count Replay = 5
 file_count (Bench _) = 0
+file_count Uplink = 6
 
 -- the words of a form that name files, in order: the first is at place 1
 abbrev pub names_of : Form → List (List ℕ) → List (List ℕ)

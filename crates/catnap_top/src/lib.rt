@@ -26,6 +26,7 @@ mod tables;
 #[cfg(test)]
 mod tests;
 mod top;
+mod uplink;
 mod versions;
 mod words;
 

@@ -17,6 +17,7 @@ use crate::replay::{Replayed, prepare_replay, status_for, write_replay};
 use crate::run::{prepare_run, write_run};
 use crate::selected::Selected;
 use crate::stop::Stop;
+use crate::uplink::{Uplinked, prepare_uplink, write_uplinked};
 use crate::words::Form;
 use cn_base::{NoMemory, Sink, WriteFail, put};
 use std::alloc::Global;
@@ -34,6 +35,7 @@ pub enum Reply {
     Check(Selected),
     Replay(Replayed),
     Bench { size: u32, replayed: Replayed },
+    Uplink(Uplinked),
 }
 
 impl Reply {
@@ -46,6 +48,7 @@ impl Reply {
             Reply::Refused(fault) => fault.status(),
             Reply::Run(_) | Reply::List(_) | Reply::Check(_) => Status::Done,
             Reply::Replay(replayed) | Reply::Bench { replayed, .. } => status_for(replayed.end),
+            Reply::Uplink(uplinked) => status_for(uplinked.replayed.end),
         }
     }
 
@@ -63,6 +66,7 @@ impl Reply {
             Reply::Check(selected) => write_check(sink, &selected),
             Reply::Replay(replayed) => write_replay(sink, replayed),
             Reply::Bench { size, replayed } => write_bench(sink, size, replayed),
+            Reply::Uplink(uplinked) => write_uplinked(sink, &uplinked),
         }
     }
 }
@@ -86,6 +90,15 @@ fn prepare(alloc: Global, form: Form, files: &[Vec<u8>]) -> Result<Reply, Stop>
             files[4].as_slice(),
         ),
         Form::Bench { size } => prepare_bench(alloc, size),
+        Form::Uplink => prepare_uplink(
+            alloc,
+            files[0].as_slice(),
+            files[1].as_slice(),
+            files[2].as_slice(),
+            files[3].as_slice(),
+            files[4].as_slice(),
+            files[5].as_slice(),
+        ),
     }
 }
 

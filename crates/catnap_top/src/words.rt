@@ -20,6 +20,8 @@ pub enum Form {
     Replay,
     /// `bench N`
     Bench { size: u32 },
+    /// `uplink SRC DEVICE TRACE ARRIVALS FAILS LINK`
+    Uplink,
 }
 
 impl Form {
@@ -32,6 +34,7 @@ impl Form {
             Form::Check => 2,
             Form::Replay => 5,
             Form::Bench { .. } => 0,
+            Form::Uplink => 6,
         }
     }
 }
@@ -78,6 +81,7 @@ pub fn form_in(words: &[String]) -> Option<Form>
             Some(Form::Bench { size })
         }
         [command, _, _, _, _, _] if command.as_str() == "replay" => Some(Form::Replay),
+        [command, _, _, _, _, _, _] if command.as_str() == "uplink" => Some(Form::Uplink),
         _ => None,
     }
 }

@@ -1,5 +1,5 @@
 use Rattle.std.proofs.Common.{◌≡◌, ap, ◌∙◌, subst, arith, length}
-use Rattle.catnap_top.specs.declared.words.Form.TheVariants.{Run, List as Listing, Check, Replay, Bench}
+use Rattle.catnap_top.specs.declared.words.Form.TheVariants.{Run, List as Listing, Check, Replay, Bench, Uplink}
 use Rattle.catnap_top.specs.Words.{file_count}
 use Rattle.catnap_top.specs.Look.{LooksAs}
 use Rattle.catnap_top.specs.Reply.{reply_answer}
@@ -48,3 +48,16 @@ returns-in-Replay-clause-looks c =
 
 pub returns-in-Bench-clause-looks : goal.returns-in-Bench-clause-looks
 returns-in-Bench-clause-looks c = looks_as_form c.args.form (Bench c.in-Bench.size) (contents c.args.files.now) c.prepare_bench.result c.in-Bench.is c.prepare_bench.ensures.looks
+
+pub returns-in-Uplink-clause-looks : goal.returns-in-Uplink-clause-looks
+returns-in-Uplink-clause-looks c =
+    let files = c.args.files.now in
+    let count : length files ≡ 6 = c.requires ∙ ap file_count c.in-Uplink.is in
+    let source = file_at files 0 c.index-files-0-in-Uplink.result c.as_slice-in-Uplink.result.now (omega arith) c.as_slice-in-Uplink.ensures.value c.index-files-0-in-Uplink.is in
+    let profile = file_at files 1 c.index-files-1-in-Uplink.result c.as_slice-in-Uplink-2.result.now (omega arith) c.as_slice-in-Uplink-2.ensures.value c.index-files-1-in-Uplink.is in
+    let trace = file_at files 2 c.index-files-2-in-Uplink.result c.as_slice-in-Uplink-3.result.now (omega arith) c.as_slice-in-Uplink-3.ensures.value c.index-files-2-in-Uplink.is in
+    let arrivals = file_at files 3 c.index-files-3-in-Uplink.result c.as_slice-in-Uplink-4.result.now (omega arith) c.as_slice-in-Uplink-4.ensures.value c.index-files-3-in-Uplink.is in
+    let failures = file_at files 4 c.index-files-4-in-Uplink.result c.as_slice-in-Uplink-5.result.now (omega arith) c.as_slice-in-Uplink-5.ensures.value c.index-files-4-in-Uplink.is in
+    let link = file_at files 5 c.index-files-5.result c.as_slice-in-Uplink-6.result.now (omega arith) c.as_slice-in-Uplink-6.ensures.value c.index-files-5.is in
+    looks_as_form c.args.form Uplink (contents files) c.prepare_uplink.result c.in-Uplink.is
+    (rw (source, profile, trace, arrivals, failures, link) at c.prepare_uplink.ensures.looks)
