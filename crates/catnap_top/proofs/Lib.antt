@@ -27,3 +27,4 @@ pub mod HeadlineRuns
 pub mod HeadlineAnswer
 pub mod OneLife
 pub mod Sending
+pub mod OneUplink

@@ -22,15 +22,14 @@ use Rattle.catnap_top.specs.OneLife.{LivesAreOne}
 use Rattle.catnap_top.specs.Files.{IsSource, program_in, IsProfile, device_in, table_in, arrivals_in, files_in}
 use Rattle.catnap_top.specs.Served.{Serves, versions_in}
 use Rattle.catnap_top.specs.declared.files.ReplayFiles.{ReplayFiles}
-use Rattle.catnap_top.specs.Lives.{Life, Lived, reported, status_of}
-use Rattle.catnap_top.specs.Uplink.{uplinking}
+use Rattle.catnap_top.specs.Lives.{Life, Lived, reported}
 use Rattle.cn_uplink.specs.Table.{links_of}
-use Rattle.cn_uplink.specs.declared.link_step.LinkStep.{LinkStep}
 use Rattle.catnap_top.specs.Look.{Look, Then, found}
 use Rattle.catnap_top.specs.Replay.{living}
 use Rattle.catnap_top.specs.Reply.{looks_of, CallsFor}
 use Rattle.catnap_top.proofs.Looks.{by_agree, then_agree, found_agree, comes_to_one}
-use Rattle.catnap_top.proofs.OneReport.{SameCode, OneUplinkText, life_agrees, reported_same, summed_same, uplink_agrees}
+use Rattle.catnap_top.proofs.OneReport.{SameCode, life_agrees, reported_same, summed_same}
+use Rattle.catnap_top.proofs.OneUplink.{OneUplinkText, uplinks_agree}
 use Rattle.catnap_top.specs.Bench.{summed}
 use Rattle.bench_input.specs.Input.{source_text, profile_text, trace_text, arrivals_text, failures_text}
 use Rattle.catnap_top.proofs.Programs.{SameFirst, SameStep, SameListing, ran_same, listed_same, checked_same}
@@ -116,15 +115,6 @@ module _ (source : (bytes : List ℕ) → Agree IsSameProgram (IsSource bytes) (
       (λ x y both. then_agree AreSameLived (λ a b. a ≡ b) _ _ _ _ (living_agree code one s d t a f x y both)
       (λ k l same. found_agree (λ a b. a ≡ b) _ _ (same_told k l same)))
 
-  -- what came of a link
-  uplinks_agree : SameCode → LivesAreOne → OneUplinkText → (s d t a f l : List ℕ) → Agree (λ (a b : Answer). a ≡ b) (uplinking s d t a f l) (uplinking s d t a f l)
-  uplinks_agree code one text s d t a f l =
-      then_agree (AreTold s d t a f) (λ a b. a ≡ b) _ _ _ _ (told_files_agree s d t a f)
-      (λ x y both. then_agree (λ (v w : List LinkStep). v ≡ w) (λ a b. a ≡ b) _ _ _ _ (table_agree table.Link (links_of l) (links_of l) refl)
-      (λ v w steps. then_agree AreSameLived (λ a b. a ≡ b) _ _ _ _ (living_agree code one s d t a f x y both)
-      (λ k m same. then_agree (λ (p q : List ℕ). p ≡ q) (λ a b. a ≡ b) _ _ _ _ (uplink_agrees text k m v w same steps)
-      (λ p q texts. found_agree (λ a b. a ≡ b) _ _ (λ i. record { status = status_of (same.life i).end; text = texts i })))))
-
   module _ (first : SameFirst) (each : SameStep) (listing : SameListing) (code : SameCode) (one : LivesAreOne) (uplink : OneUplinkText) where
     one_looks : (form : Form) (files : List (List ℕ)) → Agree (λ (a b : Answer). a ≡ b) (looks_of form files) (looks_of form files)
     one_looks (Run steps) files =
@@ -143,7 +133,15 @@ module _ (source : (bytes : List ℕ) → Agree IsSameProgram (IsSource bytes) (
         (λ lived. reported lived.files lived.chosen lived.life) reported_same
     one_looks (Bench size) files =
         telling_agrees code one source_text profile_text (trace_text size) (arrivals_text size) (failures_text size) (summed size) (summed_same size)
-    one_looks Uplink files = uplinks_agree code one uplink (get_or files 0 []) (get_or files 1 []) (get_or files 2 []) (get_or files 3 []) (get_or files 4 []) (get_or files 5 [])
+    one_looks Uplink files =
+        let s = get_or files 0 [] in
+        let d = get_or files 1 [] in
+        let t = get_or files 2 [] in
+        let a = get_or files 3 [] in
+        let f = get_or files 4 [] in
+        let l = get_or files 5 [] in
+        uplinks_agree uplink (AreTold s d t a f) (files_in s d t a f) l (told_files_agree s d t a f) (living_agree code one s d t a f)
+        (table_agree table.Link (links_of l) (links_of l) refl)
 
     pub one_answer : (form : Form) (files : List (List ℕ)) (a b : Answer) → CallsFor form files a → CallsFor form files b → a ≡ b
     one_answer form files a b h k = comes_to_one (looks_of form files) (looks_of form files) (one_looks form files) a b h k

@@ -23,11 +23,6 @@ use Rattle.catnap_top.specs.Lives.{Life, Lived, Lives, first_point, reported, st
 use Rattle.catnap_top.specs.Replay.{life_in}
 use Rattle.catnap_top.specs.Bench.{summary_text, summed}
 use Rattle.cn_report.specs.Tallied.{tally_of}
-use Rattle.catnap_top.specs.Uplink.{log_in, uplink_in}
-use Rattle.cat_program.specs.declared.outs.LogEntry.{LogEntry}
-use Rattle.cn_uplink.specs.Log.{log_of}
-use Rattle.cn_uplink.specs.Text.{IsUplinkText}
-use Rattle.cn_uplink.specs.declared.link_step.LinkStep.{LinkStep}
 use Rattle.catnap_top.proofs.Looks.{finding_agree}
 
 abbrev pub SameCode : Type 0
@@ -137,19 +132,3 @@ summed_same size a b same =
       text = summary_text size (life i).state.tick (tally_of (headers i) (arrivals i) (past_of (life i).layout (model_start (life i).origin) (life i).state))
           (life i).state.stored (life i).end;
     }
-
--- a log and a link have one text
-abbrev pub OneUplinkText : Type 0
-OneUplinkText =
-    (headers : List Event) (log : List LogEntry) (steps : List LinkStep) (one other : List ℕ) → IsUplinkText headers log steps one → IsUplinkText headers log steps other → one ≡ other
-
-pub uplink_agrees : OneUplinkText → (a b : Lived) (s t : List LinkStep) → AreSameLived a b → s ≡ t → Agree (λ (x y : List ℕ). x ≡ y) (uplink_in a s) (uplink_in b t)
-uplink_agrees one a b s t same steps =
-    let headers : a.files.program.headers ≡ b.files.program.headers = same.files.program.same.headers in
-    let logs : log_in a ≡ log_in b = ap (λ (life : Life). log_of (past_of life.layout (model_start life.origin) life.state)) same.life in
-    finding_agree (λ (x y : List ℕ). x ≡ y) (IsUplinkText a.files.program.headers (log_in a) s) (IsUplinkText b.files.program.headers (log_in b) t)
-    (λ x y h k.
-    one a.files.program.headers (log_in a) s x y h
-    (subst (λ (events : List Event). IsUplinkText events (log_in a) s y) (sym headers)
-    (subst (λ (log : List LogEntry). IsUplinkText b.files.program.headers log s y) (sym logs)
-    (subst (λ (l : List LinkStep). IsUplinkText b.files.program.headers (log_in b) l y) (sym steps) k))))
