@@ -1,5 +1,5 @@
 use Rattle.std.proofs.Common.{Some, None, true, false, sym, arith, ◌∙◌}
-use Rattle.catnap_top.proofs.Forms.{check_words, run_words, six_words, two_words}
+use Rattle.catnap_top.proofs.Forms.{check_words, run_words, seven_words, six_words, two_words}
 use Rattle.catnap_top.proofs.words.form_in.Goals as goal
 
 pub returns-in-len2-clause-form : goal.returns-in-len2-clause-form
@@ -18,6 +18,18 @@ returns-in_default-5-clause-form c =
     sym (six_words c.args.words.now c.command-item-then-words-lt7.result c.as_str-then-words-lt7.result.now c.eq-then-words-lt7.result false
     (omega (arith, c.in-len6.len_at_least)) (omega (arith, c.in-len6.len_below)) c.command-item-then-words-lt7.is c.as_str-then-words-lt7.ensures.value
     c.eq-then-words-lt7.ensures c.if-eq-5.false)
+
+pub returns-in-len7-clause-form : goal.returns-in-len7-clause-form
+returns-in-len7-clause-form c =
+    sym (seven_words c.args.words.now c.command-item-then-words-lt8.result c.as_str-then-words-lt8.result.now c.eq-then-words-lt8.result true
+    (omega (arith, c.in-len7.len_at_least)) (omega (arith, c.in-len7.len_below)) c.command-item-then-words-lt8.is c.as_str-then-words-lt8.ensures.value
+    c.eq-then-words-lt8.ensures c.if-eq-6.true)
+
+pub returns-in_default-6-clause-form : goal.returns-in_default-6-clause-form
+returns-in_default-6-clause-form c =
+    sym (seven_words c.args.words.now c.command-item-then-words-lt8.result c.as_str-then-words-lt8.result.now c.eq-then-words-lt8.result false
+    (omega (arith, c.in-len7.len_at_least)) (omega (arith, c.in-len7.len_below)) c.command-item-then-words-lt8.is c.as_str-then-words-lt8.ensures.value
+    c.eq-then-words-lt8.ensures c.if-eq-6.false)
 
 pub returns-in_ok-steps-in-len3-clause-form : goal.returns-in_ok-steps-in-len3-clause-form
 returns-in_ok-steps-in-len3-clause-form c =
