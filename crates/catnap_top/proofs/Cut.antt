@@ -23,6 +23,9 @@ use Rattle.catnap_top.specs.Answer.{Answer, most_bytes}
 use Rattle.catnap_top.specs.Source.{most_source, IsRefused, too_long, no_tokens, no_tree, unchecked}
 use Rattle.catnap_top.specs.Files.{IsSource, program_in, IsProfile, device_in, table_in, trace_in, arrivals_in, failures_in, files_in}
 use Rattle.catnap_top.specs.Look.{Look}
+use Rattle.catnap_top.specs.Uplink.{links_in}
+use Rattle.catnap_top.specs.declared.files.ReplayFiles.{ReplayFiles}
+use Rattle.cn_uplink.specs.Table.{links_of}
 use Rattle.catnap_top.specs.Reply.{looks_of, CallsFor}
 use Rattle.catnap_top.proofs.Looks.{Leads, by_leads, then_leads, comes_to_leads}
 
@@ -110,6 +113,9 @@ arrivals_cut p trace file =
 pub failures_cut : (file : List ℕ) → Leads (failures_in (front file)) (failures_in file)
 failures_cut file = told_leads _ (fails_of (front file)) (fails_of file) (table_cut _ _ _ file)
 
+pub links_cut : (file : List ℕ) → Leads (links_in (front file)) (links_in file)
+links_cut file = told_leads _ (links_of (front file)) (links_of file) (table_cut _ _ _ file)
+
 -- ---- the files of a replay
 
 pub files_cut : (s d t a f : List ℕ) → Leads (files_in (front s) (front d) (front t) (front a) (front f)) (files_in s d t a f)
@@ -134,21 +140,27 @@ at_place : {A : Type 0} (look : List ℕ → Look A) → ((file : List ℕ) → 
 at_place look cut files place =
     subst (λ file. Leads (look file) (look (get_or files place []))) (sym (front_at files place)) (cut (get_or files place []))
 
+abbrev replay_files : List (List ℕ) → Look ReplayFiles
+replay_files files = files_in (get_or files 0 []) (get_or files 1 []) (get_or files 2 []) (get_or files 3 []) (get_or files 4 [])
+
+replay_files_cut : (files : List (List ℕ)) → Leads (replay_files (map front files)) (replay_files files)
+replay_files_cut files =
+    then_leads _ _ _ _ (at_place program_in program_cut files 0)
+    (λ p. then_leads _ _ _ _ (at_place device_in device_cut files 1)
+    (λ d. then_leads _ _ _ _ (at_place trace_in trace_cut files 2)
+    (λ t. then_leads _ _ _ _ (at_place (arrivals_in p t) (arrivals_cut p t) files 3)
+    (λ a. then_leads _ _ _ _ (at_place failures_in failures_cut files 4) (λ f came h. h)))))
+
 looks_cut : (form : Form) (files : List (List ℕ)) → Leads (looks_of form (map front files)) (looks_of form files)
 looks_cut (Run steps) files = then_leads _ _ _ _ (at_place program_in program_cut files 0) (λ p came h. h)
 looks_cut Listing files = then_leads _ _ _ _ (at_place program_in program_cut files 0) (λ p came h. h)
 looks_cut Object files = then_leads _ _ _ _ (at_place program_in program_cut files 0) (λ p came h. h)
 looks_cut Check files =
     then_leads _ _ _ _ (at_place program_in program_cut files 0) (λ p. then_leads _ _ _ _ (at_place device_in device_cut files 1) (λ d came h. h))
-looks_cut Replay files =
-    then_leads _ _ _ _
-    (then_leads _ _ _ _ (at_place program_in program_cut files 0)
-    (λ p. then_leads _ _ _ _ (at_place device_in device_cut files 1)
-    (λ d. then_leads _ _ _ _ (at_place trace_in trace_cut files 2)
-    (λ t. then_leads _ _ _ _ (at_place (arrivals_in p t) (arrivals_cut p t) files 3)
-    (λ a. then_leads _ _ _ _ (at_place failures_in failures_cut files 4) (λ f came h. h))))))
-    (λ x came h. h)
+looks_cut Replay files = then_leads _ _ _ _ (replay_files_cut files) (λ x came h. h)
+looks_cut Image files = then_leads _ _ _ _ (replay_files_cut files) (λ x came h. h)
 looks_cut (Bench size) files = λ came h. h
+looks_cut Uplink files = then_leads _ _ _ _ (replay_files_cut files) (λ x. then_leads _ _ _ _ (at_place links_in links_cut files 5) (λ steps came h. h))
 
 pub form_cut : (form : Form) (files : List (List ℕ)) (due : Answer)
     → CallsFor form (map (λ file. take (most_bytes + 1) file) files) due → CallsFor form files due

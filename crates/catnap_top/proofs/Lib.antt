@@ -24,3 +24,5 @@ pub mod HeadlineDeadlines
 pub mod HeadlineRuns
 pub mod HeadlineAnswer
 pub mod OneLife
+pub mod Sending
+pub mod OneUplink

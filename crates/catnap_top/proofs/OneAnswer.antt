@@ -23,11 +23,14 @@ use Rattle.catnap_top.specs.Files.{IsSource, program_in, IsProfile, device_in, t
 use Rattle.catnap_top.specs.Served.{Serves, versions_in}
 use Rattle.catnap_top.specs.declared.files.ReplayFiles.{ReplayFiles}
 use Rattle.catnap_top.specs.Lives.{Life, Lived, reported}
+use Rattle.cn_uplink.specs.Table.{links_of}
 use Rattle.catnap_top.specs.Look.{Look, Then, found}
 use Rattle.catnap_top.specs.Replay.{living}
 use Rattle.catnap_top.specs.Reply.{looks_of, CallsFor}
 use Rattle.catnap_top.proofs.Looks.{by_agree, then_agree, found_agree, comes_to_one}
-use Rattle.catnap_top.proofs.OneReport.{SameCode, life_agrees, reported_same, summed_same}
+use Rattle.catnap_top.proofs.OneReport.{SameCode, life_agrees, reported_same, saved_same, summed_same}
+use Rattle.catnap_top.proofs.OneUplink.{OneUplinkText, uplinks_agree}
+use Rattle.catnap_top.specs.Image.{saved}
 use Rattle.catnap_top.specs.Bench.{summed}
 use Rattle.bench_input.specs.Input.{source_text, profile_text, trace_text, arrivals_text, failures_text}
 use Rattle.catnap_top.proofs.Programs.{SameFirst, SameStep, SameListing, ran_same, listed_same, compiled_same, checked_same}
@@ -113,7 +116,7 @@ module _ (source : (bytes : List ℕ) → Agree IsSameProgram (IsSource bytes) (
       (λ x y both. then_agree AreSameLived (λ a b. a ≡ b) _ _ _ _ (living_agree code one s d t a f x y both)
       (λ k l same. found_agree (λ a b. a ≡ b) _ _ (same_told k l same)))
 
-  module _ (first : SameFirst) (each : SameStep) (listing : SameListing) (code : SameCode) (one : LivesAreOne) where
+  module _ (first : SameFirst) (each : SameStep) (listing : SameListing) (code : SameCode) (one : LivesAreOne) (uplink : OneUplinkText) where
     one_looks : (form : Form) (files : List (List ℕ)) → Agree (λ (a b : Answer). a ≡ b) (looks_of form files) (looks_of form files)
     one_looks (Run steps) files =
         then_agree IsSameProgram (λ a b. a ≡ b) _ _ _ _ (programs (get_or files 0 []))
@@ -132,8 +135,19 @@ module _ (source : (bytes : List ℕ) → Agree IsSameProgram (IsSource bytes) (
     one_looks Replay files =
         telling_agrees code one (get_or files 0 []) (get_or files 1 []) (get_or files 2 []) (get_or files 3 []) (get_or files 4 [])
         (λ lived. reported lived.files lived.chosen lived.life) reported_same
+    one_looks Image files =
+        telling_agrees code one (get_or files 0 []) (get_or files 1 []) (get_or files 2 []) (get_or files 3 []) (get_or files 4 []) saved saved_same
     one_looks (Bench size) files =
         telling_agrees code one source_text profile_text (trace_text size) (arrivals_text size) (failures_text size) (summed size) (summed_same size)
+    one_looks Uplink files =
+        let s = get_or files 0 [] in
+        let d = get_or files 1 [] in
+        let t = get_or files 2 [] in
+        let a = get_or files 3 [] in
+        let f = get_or files 4 [] in
+        let l = get_or files 5 [] in
+        uplinks_agree uplink (AreTold s d t a f) (files_in s d t a f) l (told_files_agree s d t a f) (living_agree code one s d t a f)
+        (table_agree table.Link (links_of l) (links_of l) refl)
 
     pub one_answer : (form : Form) (files : List (List ℕ)) (a b : Answer) → CallsFor form files a → CallsFor form files b → a ≡ b
     one_answer form files a b h k = comes_to_one (looks_of form files) (looks_of form files) (one_looks form files) a b h k

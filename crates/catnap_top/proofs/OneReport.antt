@@ -21,6 +21,8 @@ use Rattle.catnap_top.specs.declared.files.ReplayFiles.{ReplayFiles}
 use Rattle.catnap_top.specs.Alike.{Agree, AreSameFiles, AreSameLived}
 use Rattle.catnap_top.specs.Lives.{Life, Lived, Lives, first_point, reported, status_of}
 use Rattle.catnap_top.specs.Replay.{life_in}
+use Rattle.cn_resume.specs.Saved.{saved_bytes}
+use Rattle.catnap_top.specs.Image.{saved}
 use Rattle.catnap_top.specs.Bench.{summary_text, summed}
 use Rattle.cn_report.specs.Tallied.{tally_of}
 use Rattle.catnap_top.proofs.Looks.{finding_agree}
@@ -121,6 +123,9 @@ reported_same a b same =
       text = report_text (alike.headers i) (alike.variables i) (chosen i) (arrivals i) (past_of (life i).layout (model_start (life i).origin) (life i).state)
           (life i).state.tick (life i).state.stored (life i).end;
     }
+
+pub saved_same : (a b : Lived) → AreSameLived a b → saved a ≡ saved b
+saved_same a b same = ap (λ life. record { status = status_of life.end; text = saved_bytes life.state }) same.life
 
 pub summed_same : (size : ℕ) (a b : Lived) → AreSameLived a b → summed size a ≡ summed size b
 summed_same size a b same =

@@ -24,6 +24,7 @@ fault_own (fault.Device kind) = refl
 fault_own (fault.Table table.Trace row kind) = refl
 fault_own (fault.Table table.Arrivals row kind) = refl
 fault_own (fault.Table table.Fails row kind) = refl
+fault_own (fault.Table table.Link row kind) = refl
 fault_own (fault.Choice (none.Window spacing)) = refl
 fault_own (fault.Choice (none.Rejected verdict)) = refl
 
@@ -40,7 +41,10 @@ looks_own (Run steps) files = then_finds IsOwn _ _ (λ p. found_finds IsOwn _ re
 looks_own Listing files = then_finds IsOwn _ _ (λ p. found_finds IsOwn _ refl)
 looks_own Object files = then_finds IsOwn _ _ (λ p. found_finds IsOwn _ refl)
 looks_own Replay files = then_finds IsOwn _ _ (λ files. then_finds IsOwn _ _ (λ lived. found_finds IsOwn _ (end_own lived.life.end)))
+looks_own Image files = then_finds IsOwn _ _ (λ files. then_finds IsOwn _ _ (λ lived. found_finds IsOwn _ (end_own lived.life.end)))
 looks_own (Bench size) files = then_finds IsOwn _ _ (λ made. then_finds IsOwn _ _ (λ lived. found_finds IsOwn _ (end_own lived.life.end)))
+looks_own Uplink files =
+    then_finds IsOwn _ _ (λ told. then_finds IsOwn _ _ (λ steps. then_finds IsOwn _ _ (λ lived. then_finds IsOwn _ _ (λ text. found_finds IsOwn _ (end_own lived.life.end)))))
 looks_own Check files = then_finds IsOwn _ _ (λ p. then_finds IsOwn _ _ (λ d. then_finds IsOwn _ _ (λ c. found_finds IsOwn _ refl)))
 
 pub form_own : (form : Form) (files : List (List ℕ)) (due : Answer) → CallsFor form files due → IsOwn due

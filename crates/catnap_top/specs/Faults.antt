@@ -13,7 +13,7 @@ use Rattle.catnap_top.specs.declared.fault.Table.TheVariants as table
 use Rattle.catnap_top.specs.declared.fault.Fault.{Fault}
 use Rattle.catnap_top.specs.declared.fault.Fault.TheVariants as fault
 use Rattle.catnap_top.specs.declared.status.Status.{Status}
-use Rattle.catnap_top.specs.declared.status.Status.TheVariants.{BadDevice, BadTrace, BadArrivals, BadFails, WindowTooLong, Rejected}
+use Rattle.catnap_top.specs.declared.status.Status.TheVariants.{BadDevice, BadTrace, BadArrivals, BadFails, BadLink, WindowTooLong, Rejected}
 use Rattle.catnap_top.specs.Answer.{Answer, line}
 use Rattle.catnap_top.specs.Refusals.{refused}
 
@@ -32,11 +32,13 @@ abbrev pub table_name : Table → List ℕ
 table_name table.Trace = codes "trace"
 table_name table.Arrivals = codes "arrivals"
 table_name table.Fails = codes "fails"
+table_name table.Link = codes "link"
 
 abbrev pub table_status : Table → Status
 table_status table.Trace = BadTrace
 table_status table.Arrivals = BadArrivals
 table_status table.Fails = BadFails
+table_status table.Link = BadLink
 
 abbrev pub row_kind_name : RowKind → List ℕ
 row_kind_name row.Long = codes "Long"

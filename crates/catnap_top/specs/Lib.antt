@@ -14,10 +14,13 @@ pub mod Listed
 pub mod CompiledValue
 pub mod Object
 pub mod Bench
+pub mod Image
 pub mod Check
 pub mod Replay
 pub mod Replayed
 pub mod Lives
+pub mod Uplink
+pub mod Uplinked
 pub mod SelectedValue
 pub mod Reply
 pub mod Reads

@@ -14,7 +14,10 @@ use Rattle.catnap_top.specs.Object.{compiling, filed}
 use Rattle.catnap_top.specs.Check.{checking, checked}
 use Rattle.catnap_top.specs.Replay.{replaying}
 use Rattle.catnap_top.specs.Replayed.{lived_of, replayed_answer, IsReadyToTell}
+use Rattle.catnap_top.specs.Image.{saving, saved}
 use Rattle.catnap_top.specs.Bench.{benching, summed}
+use Rattle.catnap_top.specs.Uplink.{uplinking}
+use Rattle.catnap_top.specs.Uplinked.{uplinked_answer}
 
 -- the looks of a form at the bytes of its files in order
 abbrev pub looks_of : Form → List (List ℕ) → Look Answer
@@ -23,7 +26,10 @@ looks_of Listing files = listing (get_or files 0 [])
 looks_of Object files = compiling (get_or files 0 [])
 looks_of Check files = checking (get_or files 0 []) (get_or files 1 [])
 looks_of Replay files = replaying (get_or files 0 []) (get_or files 1 []) (get_or files 2 []) (get_or files 3 []) (get_or files 4 [])
+looks_of Image files = saving (get_or files 0 []) (get_or files 1 []) (get_or files 2 []) (get_or files 3 []) (get_or files 4 [])
 looks_of (Bench size) files = benching size
+looks_of Uplink files =
+    uplinking (get_or files 0 []) (get_or files 1 []) (get_or files 2 []) (get_or files 3 []) (get_or files 4 []) (get_or files 5 [])
 
 -- the answer to a form over the bytes of its files in order
 abbrev pub CallsFor : Form → List (List ℕ) → Answer → Type 0
@@ -39,7 +45,9 @@ reply_answer (reply.List compiled) = listed compiled.program
 reply_answer (reply.Object file) = filed file.items
 reply_answer (reply.Check selected) = checked selected.program selected.chosen
 reply_answer (reply.Replay replayed) = replayed_answer replayed
+reply_answer (reply.Image replayed) = saved (lived_of replayed)
 reply_answer (reply.Bench size replayed) = summed size (lived_of replayed)
+reply_answer (reply.Uplink uplinked) = uplinked_answer uplinked
 
 -- what has to be true for it to be written
 abbrev pub CanBeWritten : Reply → Type 0

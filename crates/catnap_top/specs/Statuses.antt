@@ -17,3 +17,4 @@ number_of_status status.WindowTooLong = 10
 number_of_status status.Rejected = 11
 number_of_status status.LogFull = 12
 number_of_status status.NoMemory = 13
+number_of_status status.BadLink = 17

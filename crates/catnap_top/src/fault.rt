@@ -36,6 +36,7 @@ pub enum Table {
     Trace,
     Arrivals,
     Fails,
+    Link,
 }
 
 /// Why no versions are chosen.
@@ -95,6 +96,7 @@ impl Table {
             Table::Trace => "trace",
             Table::Arrivals => "arrivals",
             Table::Fails => "fails",
+            Table::Link => "link",
         }
     }
 
@@ -105,6 +107,7 @@ impl Table {
             Table::Trace => Status::BadTrace,
             Table::Arrivals => Status::BadArrivals,
             Table::Fails => Status::BadFails,
+            Table::Link => Status::BadLink,
         }
     }
 }

@@ -7,6 +7,7 @@ mod compiled;
 mod fault;
 mod files;
 mod headline;
+mod image;
 mod line;
 mod list;
 mod object;
@@ -27,6 +28,7 @@ mod tables;
 #[cfg(test)]
 mod tests;
 mod top;
+mod uplink;
 mod versions;
 
 pub use headline::replays_show_runs;

@@ -18,6 +18,7 @@ use cat_resolve::checked_law;
 use cat_syntax::one_tree;
 use cat_tokens::one_lexing;
 use cn_runtime::{plans_are_planned, plans_are_set_up};
+use cn_uplink::one_uplink_text;
 use degradation::choices_suit;
 use device_profile::one_device_law;
 use event_arrivals::told_arrivals_are_sound;
@@ -79,4 +80,5 @@ pub fn one_answer()
     lives_are_one();
     same_steps_law();
     same_code_law();
+    one_uplink_text();
 }

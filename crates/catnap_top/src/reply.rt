@@ -10,6 +10,7 @@ use crate::bench::{prepare_bench, write_bench};
 use crate::check::{prepare_check, write_check};
 use crate::compiled::Compiled;
 use crate::fault::Fault;
+use crate::image::{prepare_image, write_image};
 use crate::line::put_read_fault;
 use crate::list::{prepare_list, write_list};
 use crate::object::{prepare_object, write_file};
@@ -18,6 +19,7 @@ use crate::replay::{Replayed, prepare_replay, status_for, write_replay};
 use crate::run::{prepare_run, write_run};
 use crate::selected::Selected;
 use crate::stop::Stop;
+use crate::uplink::{Uplinked, prepare_uplink, write_uplinked};
 use cn_base::{NoMemory, Sink, WriteFail, put};
 use catnap_words::Form;
 use std::alloc::Global;
@@ -36,7 +38,9 @@ pub enum Reply {
     Object(Vec<u8>),
     Check(Selected),
     Replay(Replayed),
+    Image(Replayed),
     Bench { size: u32, replayed: Replayed },
+    Uplink(Uplinked),
 }
 
 impl Reply {
@@ -48,7 +52,10 @@ impl Reply {
             Reply::ReadFault(_) => Status::ReadFault,
             Reply::Refused(fault) => fault.status(),
             Reply::Run(_) | Reply::List(_) | Reply::Object(_) | Reply::Check(_) => Status::Done,
-            Reply::Replay(replayed) | Reply::Bench { replayed, .. } => status_for(replayed.end),
+            Reply::Replay(replayed) | Reply::Image(replayed) | Reply::Bench { replayed, .. } => {
+                status_for(replayed.end)
+            }
+            Reply::Uplink(uplinked) => status_for(uplinked.replayed.end),
         }
     }
 
@@ -66,7 +73,9 @@ impl Reply {
             Reply::Object(file) => write_file(sink, file.as_slice()),
             Reply::Check(selected) => write_check(sink, &selected),
             Reply::Replay(replayed) => write_replay(sink, replayed),
+            Reply::Image(replayed) => write_image(sink, &replayed),
             Reply::Bench { size, replayed } => write_bench(sink, size, replayed),
+            Reply::Uplink(uplinked) => write_uplinked(sink, &uplinked),
         }
     }
 }
@@ -90,7 +99,24 @@ fn prepare(alloc: Global, form: Form, files: &[Vec<u8>]) -> Result<Reply, Stop>
             files[3].as_slice(),
             files[4].as_slice(),
         ),
+        Form::Image => prepare_image(
+            alloc,
+            files[0].as_slice(),
+            files[1].as_slice(),
+            files[2].as_slice(),
+            files[3].as_slice(),
+            files[4].as_slice(),
+        ),
         Form::Bench { size } => prepare_bench(alloc, size),
+        Form::Uplink => prepare_uplink(
+            alloc,
+            files[0].as_slice(),
+            files[1].as_slice(),
+            files[2].as_slice(),
+            files[3].as_slice(),
+            files[4].as_slice(),
+            files[5].as_slice(),
+        ),
     }
 }
 

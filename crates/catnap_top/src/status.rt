@@ -18,6 +18,7 @@ pub enum Status {
     Rejected,
     LogFull,
     NoMemory,
+    BadLink,
 }
 
 impl Status {
@@ -39,6 +40,7 @@ impl Status {
             Status::Rejected => 11,
             Status::LogFull => 12,
             Status::NoMemory => 13,
+            Status::BadLink => 17,
         }
     }
 }

@@ -66,8 +66,11 @@ fn respond<I: Inputs, K: Sink>(
 ///   events, with what a job in each takes at most, and the numbers of that choice.
 /// - `replay SRC DEVICE TRACE ARRIVALS FAILS`: the report of the source's life on the device, where the
 ///   trace, the arrivals and the failures are as these tables say.
+/// - `image SRC DEVICE TRACE ARRIVALS FAILS`: what that device holds at the end of this life, as a file of bytes.
 /// - `bench N`, N being 1 to 4 decimal digits of at most 1,665: how many lines of each kind that report has, and
 ///   how it ends, for a source and tables of that size that the program makes itself. It reads no file.
+/// - `uplink SRC DEVICE TRACE ARRIVALS FAILS LINK`: how far the committed log of that life came over a link of these steps,
+///   and what the host holds after the rounds that follow.
 ///
 /// All memory is taken before the first byte is written.
 ///
@@ -75,7 +78,7 @@ fn respond<I: Inputs, K: Sink>(
 /// faults rose; `BadSource` where the source has more than 262,144 bytes, has no tokens or no tree,
 /// or breaks a condition, with the first of these kinds; `BadDevice` where the profile is none, with
 /// its first fault; `BadTrace`, `BadArrivals` and `BadFails` where a table is none, with its first row
-/// that has a fault; `WindowTooLong` and `Rejected` where there is no choice. Each of these writes one
+/// that has a fault; `BadLink` likewise; `WindowTooLong` and `Rejected` where there is no choice. Each of these writes one
 /// fault line, and they are looked at in this order. `LogFull` where the log of a replay has no place
 /// for a record; the whole report up to then is written.
 /// `WriteFault` only where the sink's count of faults rose, and a proper prefix of the text has been

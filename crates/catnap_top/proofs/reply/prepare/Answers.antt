@@ -56,5 +56,30 @@ returns-in-Replay-clause-looks c =
     looks_as_form c.args.form Replay (contents files) c.prepare_replay.result c.in-Replay.is
     (rw (source, profile, trace, arrivals, failures) at c.prepare_replay.ensures.looks)
 
+pub returns-in-Image-clause-looks : goal.returns-in-Image-clause-looks
+returns-in-Image-clause-looks c =
+    let files = c.args.files.now in
+    let count : length files ≡ 5 = c.requires ∙ ap file_count c.in-Image.is in
+    let source = file_at files 0 c.index-files-0-in-Image.result c.as_slice-in-Image.result.now (omega arith) c.as_slice-in-Image.ensures.value c.index-files-0-in-Image.is in
+    let profile = file_at files 1 c.index-files-1-in-Image.result c.as_slice-in-Image-2.result.now (omega arith) c.as_slice-in-Image-2.ensures.value c.index-files-1-in-Image.is in
+    let trace = file_at files 2 c.index-files-2-in-Image.result c.as_slice-in-Image-3.result.now (omega arith) c.as_slice-in-Image-3.ensures.value c.index-files-2-in-Image.is in
+    let arrivals = file_at files 3 c.index-files-3-in-Image.result c.as_slice-in-Image-4.result.now (omega arith) c.as_slice-in-Image-4.ensures.value c.index-files-3-in-Image.is in
+    let failures = file_at files 4 c.index-files-4-in-Image.result c.as_slice-in-Image-5.result.now (omega arith) c.as_slice-in-Image-5.ensures.value c.index-files-4-in-Image.is in
+    looks_as_form c.args.form Image (contents files) c.prepare_image.result c.in-Image.is
+    (rw (source, profile, trace, arrivals, failures) at c.prepare_image.ensures.looks)
+
 pub returns-in-Bench-clause-looks : goal.returns-in-Bench-clause-looks
 returns-in-Bench-clause-looks c = looks_as_form c.args.form (Bench c.in-Bench.size) (contents c.args.files.now) c.prepare_bench.result c.in-Bench.is c.prepare_bench.ensures.looks
+
+pub returns-in-Uplink-clause-looks : goal.returns-in-Uplink-clause-looks
+returns-in-Uplink-clause-looks c =
+    let files = c.args.files.now in
+    let count : length files ≡ 6 = c.requires ∙ ap file_count c.in-Uplink.is in
+    let source = file_at files 0 c.index-files-0-in-Uplink.result c.as_slice-in-Uplink.result.now (omega arith) c.as_slice-in-Uplink.ensures.value c.index-files-0-in-Uplink.is in
+    let profile = file_at files 1 c.index-files-1-in-Uplink.result c.as_slice-in-Uplink-2.result.now (omega arith) c.as_slice-in-Uplink-2.ensures.value c.index-files-1-in-Uplink.is in
+    let trace = file_at files 2 c.index-files-2-in-Uplink.result c.as_slice-in-Uplink-3.result.now (omega arith) c.as_slice-in-Uplink-3.ensures.value c.index-files-2-in-Uplink.is in
+    let arrivals = file_at files 3 c.index-files-3-in-Uplink.result c.as_slice-in-Uplink-4.result.now (omega arith) c.as_slice-in-Uplink-4.ensures.value c.index-files-3-in-Uplink.is in
+    let failures = file_at files 4 c.index-files-4-in-Uplink.result c.as_slice-in-Uplink-5.result.now (omega arith) c.as_slice-in-Uplink-5.ensures.value c.index-files-4-in-Uplink.is in
+    let link = file_at files 5 c.index-files-5.result c.as_slice-in-Uplink-6.result.now (omega arith) c.as_slice-in-Uplink-6.ensures.value c.index-files-5.is in
+    looks_as_form c.args.form Uplink (contents files) c.prepare_uplink.result c.in-Uplink.is
+    (rw (source, profile, trace, arrivals, failures, link) at c.prepare_uplink.ensures.looks)

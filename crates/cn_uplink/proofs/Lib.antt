@@ -1,0 +1,9 @@
+pub mod Lists
+pub mod Steps
+pub mod Rounds
+pub mod TableSteps
+pub mod Windows
+pub mod Logged
+pub mod Wires
+pub mod Finishing
+pub mod Courses

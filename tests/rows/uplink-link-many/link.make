@@ -1,0 +1,3 @@
+print("step,n")
+for _ in range(100001):
+    print("send,0")
