@@ -8,19 +8,20 @@ fault line of it or a whole answer, that nothing is on standard error, and that 
 
 - where words have no form: status 2; where files can't be read: status 3, with the first of them in the order of the words;
 - where standard output is closed, or full after any number of bytes: status 4 and a proper prefix of the text;
+- where memory is refused, once at each place where it is asked for: status 13 and no byte, or the whole answer, by a small
+  allocator in front of the system's (tests/refusing.c, for which a C compiler is needed; it is said where there is none);
 - for files at both ends of a limit: the answer on each side;
 - for mutations of the files of tests/rows, N rounds over all rows (60): what is said above.
 
 With OTHER, a second program that answers the same words, status and bytes must be those of the other one. Cases that
 fail are kept in FOLDER. With --short it takes some seconds. The last line is 'N passed, M failed'.
-
-Refused memory isn't tried here: it can't be asked for from outside of the program.
 """
 import itertools
 import os
 import random
 import re
 import resource
+import shutil
 import signal
 import subprocess
 import sys
@@ -44,25 +45,32 @@ REPORT = CHOSEN + LIFE + LOG + rf"end \d+ \d+ \d+ %s\n(?:var {NAME}(?: -?\d+)+\n
 CONDITIONS = """BadNumber TooManyVars TooManyEvents TooManyTasks TooManyVersions Twice Unknown WrongType WhileInEvent RepeatInTask PayloadInTask
 DeadlineTooLong DegradeTooOften StackTooDeep HandlerTooLong CodeTooLong""".split()
 SOURCE_KINDS = ["TooLong", "BadByte", "IntTooLarge", "NameTooLong", "TooDeep", "Syntax", *CONDITIONS]
+FAILING = r"F(?:1|2|3 \d+) \d+ \d+"
 FAULTS = {
     2: "fault usage\n",
-    3: r"fault read [1-5]\n",
+    3: r"fault read [1-6]\n",
     5: rf"fault source (?:{'|'.join(SOURCE_KINDS)}) \d+\n",
     6: r"fault device (?:long|syntax|extra|(?:key|range) [a-z]+(?:\.[a-z]+)?)\n",
     7: r"fault trace \d+ (?:Long|Header|Fields|Number|Range|Total)\n",
     8: r"fault arrivals \d+ (?:Long|Header|Many|Fields|Number|Range|Name|Order)\n",
     9: r"fault fails \d+ (?:Long|Header|Many|Fields|Number|Range|Fill|Order)\n",
     10: r"fault window \d+\n",
-    11: r"fault rejected F(?:1|2|3 \d+) \d+ \d+\n",
+    11: rf"fault rejected {FAILING}\n",
+    17: r"fault link \d+ (?:Long|Header|Many|Fields|Number|Name|Range)\n",
 }
 TEXTS = {
     "run": {0: r"(?:out \d+ -?\d+\n)*steps \d+\n"},
     "list": {0: rf"(?:(?:task {NAME}|event {NAME} \d) \d+\n|\d+ [a-z]+(?: \d+)*\n)*"},
     "check": {0: CHOSEN},
+    "object": {0: r"(?s:CNO1.{8,})"},
+    "plan": {0: rf"plan (?:none {FAILING}\n|\d+\n{CHOSEN}below (?:none|{FAILING})\n)"},
     "replay": {0: REPORT % "trace", 12: REPORT % "log"},
+    "image": {status: r"(?s:CNI1.{8}\0\0\0\0.{64,})" for status in (0, 12)},
+    "uplink": {status: rf"link \d+ \d+ \d+\nrounds \d+\n(?:out \d+ -?\d+\n|ran {NAME} \d+ \d \d+\n)*" for status in (0, 12)},
     "bench": {0: r"bench \d+\nticks \d+\nran \d+\nmet \d+\nlost \d+\ndropped \d+\nouts \d+\nend \d+ trace\n"},
 }
-REFUSED = {"run": (2, 3, 5), "list": (2, 3, 5), "check": (2, 3, 5, 6, 10, 11), "replay": (2, 3, 5, 6, 7, 8, 9, 10, 11), "bench": (2,)}
+REFUSED = {"run": (2, 3, 5), "list": (2, 3, 5), "object": (2, 3, 5), "check": (2, 3, 5, 6, 10, 11), "plan": (2, 3, 5, 6, 10), "bench": (2,)}
+REFUSED |= {"replay": (2, 3, 5, 6, 7, 8, 9, 10, 11), "image": (2, 3, 5, 6, 7, 8, 9, 10, 11), "uplink": (2, 3, 5, 6, 7, 8, 9, 10, 11, 17)}
 # the texts of each command by their statuses; words of no command have one
 WHOLE = {None: {2: re.compile(FAULTS[2].encode())}}
 for command, texts in TEXTS.items():
@@ -77,7 +85,9 @@ FILES = {"source": NODE + b"start mean;\n"}
 for name, example in (("device", "node.toml"), ("trace", "node-trace.csv"), ("arrivals", "node-arrivals.csv"), ("failures", "node-failures.csv")):
     with open(os.path.join(TOP, "examples", example), "rb") as file:
         FILES[name] = file.read()
-FORMS = [["run", "source", "100"], ["list", "source"], ["check", "source", "device"], generate.REPLAY]
+FILES["link"] = b"step,n\ngrow,4\nsend,0\nsend,0\ndata,1\ndata,0\ndata,0\nack,1\nrestart,0\nack,0\nsend,0\ndata,1\n"
+FORMS = [["run", "source", "100"], ["list", "source"], ["object", "source"], ["check", "source", "device"], ["plan", "source", "device"]]
+FORMS += [generate.REPLAY, ["image", *generate.REPLAY[1:]], ["uplink", *generate.REPLAY[1:], "link"]]
 
 
 def places(words):
@@ -258,6 +268,49 @@ def full_outputs(tests, short):
     text = generate.run(tests.program, words, tests.folder).text
     for count in (0, 1, 10, 4095, 65536, 65537) + (() if short else (100000, 1000000, len(text) - 100000)):
         into_pipe(tests, words, text, count)
+
+
+# Memory that is refused
+
+def compiled_allocator(folder):
+    """An allocator that refuses one request, or nothing where it can't be compiled."""
+    compiler = shutil.which("cc") or shutil.which("gcc") or shutil.which("clang")
+    if compiler is None:
+        return None
+    path = os.path.join(folder, "refusing.so")
+    source = os.path.join(TOP, "tests", "refusing.c")
+    made = subprocess.run([compiler, "-O2", "-shared", "-fPIC", "-o", path, source], capture_output=True)
+    return path if made.returncode == 0 else None
+
+
+def refused_memory(tests, short):
+    with tempfile.TemporaryDirectory() as folder:
+        allocator = compiled_allocator(folder)
+        if allocator is None:
+            print("refused memory was not tried, for want of a C compiler")
+            return
+        told = os.path.join(folder, "requests")
+        for words in [*FORMS, ["bench", "1"], ["list", "bad"], ["help"]]:
+            refuse_each(tests, words, allocator, told, short)
+
+
+def refuse_each(tests, words, allocator, told, short):
+    """Refuses each request for memory of a run in turn. In the short form some fifty of them, the first and the last ones among them."""
+    def refusing(number):
+        environment = {**os.environ, "LD_PRELOAD": allocator, "REFUSED": str(number), "REQUESTS": told}
+        return generate.run(tests.program, words, tests.folder, env=environment)
+
+    whole = refusing(0)
+    with open(told) as file:
+        count = int(file.read())
+    numbers = range(1, count + 1)
+    if short:
+        numbers = sorted({*numbers[:10], *numbers[-10:], *numbers[:: 1 + count // 30]})
+    nothing = (13, b"", b"")
+    for number in numbers:
+        answer = refusing(number)
+        fault = None if answer[:3] in (nothing, whole[:3]) else f"status {answer.status} {answer.text[:80]!r} {answer.errors[:80]!r}"
+        tests.tell(f"{words}, request {number} of {count} refused", fault, words, [whole, answer])
 
 
 # Hostile files
@@ -587,6 +640,7 @@ def main():
         unreadable(tests, short)
         odd_words(tests, short)
         full_outputs(tests, short)
+        refused_memory(tests, short)
         hostile_files(tests, short)
         mutations(tests, seed, rounds, short)
     print(f"slowest {tests.slowest[0]:.1f} s: {tests.slowest[1]}")
