@@ -1,0 +1,2 @@
+pub mod Richer
+pub mod Undegraded

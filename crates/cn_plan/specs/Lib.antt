@@ -1,0 +1,3 @@
+pub mod Harvest
+pub mod Whole
+pub mod Least
