@@ -5,11 +5,17 @@
 mod answer;
 mod halves;
 mod harvest;
+mod law;
 mod search;
 mod served;
+#[cfg(test)]
+mod tests;
+mod text;
 mod whole;
 
 pub use answer::{Least, LeastFault};
 pub use halves::MOST_HARVEST;
 pub use harvest::harvest_law;
+pub use law::one_plan_law;
 pub use search::least;
+pub use text::write_plan;
