@@ -13,7 +13,7 @@ use Rattle.harvest_trace.specs.TraceTable.{trace_of}
 use Rattle.harvest_trace.specs.declared.row.TraceRow.{TraceRow}
 use Rattle.nv_memory.specs.declared.device.Device.{Device}
 use Rattle.catnap_top.specs.declared.words.Form.{Form}
-use Rattle.catnap_top.specs.declared.words.Form.TheVariants.{Run, List as Listing, Check, Replay, Bench}
+use Rattle.catnap_top.specs.declared.words.Form.TheVariants.{Run, List as Listing, Check, Plan, Replay, Bench}
 use Rattle.catnap_top.specs.declared.refusal.SourceFault.{SourceFault}
 use Rattle.catnap_top.specs.declared.fault.ProfileFault.{ProfileFault}
 use Rattle.catnap_top.specs.declared.fault.ProfileFault.TheVariants as profile
@@ -138,6 +138,8 @@ looks_cut : (form : Form) (files : List (List ℕ)) → Leads (looks_of form (ma
 looks_cut (Run steps) files = then_leads _ _ _ _ (at_place program_in program_cut files 0) (λ p came h. h)
 looks_cut Listing files = then_leads _ _ _ _ (at_place program_in program_cut files 0) (λ p came h. h)
 looks_cut Check files =
+    then_leads _ _ _ _ (at_place program_in program_cut files 0) (λ p. then_leads _ _ _ _ (at_place device_in device_cut files 1) (λ d came h. h))
+looks_cut Plan files =
     then_leads _ _ _ _ (at_place program_in program_cut files 0) (λ p. then_leads _ _ _ _ (at_place device_in device_cut files 1) (λ d came h. h))
 looks_cut Replay files =
     then_leads _ _ _ _

@@ -3,7 +3,7 @@ use Rattle.std.proofs.Common.{◌≡◌, ℕ, ◌<◌, ◌≤◌, List, [], ◌�
 use Rattle.std.specs.Prelude.{bytes_eq, codes, option_map, if◌then◌else◌}
 use Rattle.std.specs.declared.alloc.Global.{Global}
 use Rattle.catnap_top.specs.declared.words.Form.{Form}
-use Rattle.catnap_top.specs.declared.words.Form.TheVariants.{Run, List as Listing, Check, Replay, Bench}
+use Rattle.catnap_top.specs.declared.words.Form.TheVariants.{Run, List as Listing, Check, Plan, Replay, Bench}
 use Rattle.catnap_top.specs.Words.{texts, form_of, most_size, most_steps, number_of}
 
 abbrev form_if : Bool → Form → Option Form
@@ -49,8 +49,8 @@ six_words (a ∷ b ∷ c ∷ d ∷ f ∷ g ∷ []) command text test is least be
 six_words (a ∷ b ∷ c ∷ d ∷ f ∷ g ∷ h ∷ more) command text test is least below at said by e = absurd (omega arith)
 
 -- of three words, by the tests of the first
-abbrev pub long_form : Bool → Bool → List ℕ → Option Form
-long_form run check last = if run then option_map (λ n. Run n) (number_of 7 most_steps last) else if check then Some Check else None
+abbrev pub long_form : Bool → Bool → Bool → List ℕ → Option Form
+long_form run check plan last = if run then option_map (λ n. Run n) (number_of 7 most_steps last) else if check then Some Check else form_if plan Plan
 
 same_test : (command first : String Global) (text word : List ℕ) (test is : Bool) → command ≡ first → text ≡ string_bytes command → test ≡ bytes_eq text word → test ≡ is
     → bytes_eq (string_bytes first) word ≡ is
@@ -66,17 +66,34 @@ run_words (a ∷ b ∷ []) command last text word test number least below at sai
 run_words (a ∷ b ∷ c ∷ []) command last text word test number least below at said by e l w n =
     let run = same_test command a text (codes "run") test true at said by e in
     ap (λ (found : Option ℕ). option_map (λ n. Run n) found) (n ∙ ap (number_of 7 most_steps) (w ∙ ap (λ (s : String Global). string_bytes s) l))
-    ∙ sym (ap (λ (r : Bool). long_form r (bytes_eq (string_bytes a) (codes "check")) (string_bytes c)) run)
+    ∙ sym (ap (λ (r : Bool). long_form r (bytes_eq (string_bytes a) (codes "check")) (bytes_eq (string_bytes a) (codes "plan")) (string_bytes c)) run)
 run_words (a ∷ b ∷ c ∷ d ∷ more) command last text word test number least below at said by e l w n = absurd (omega arith)
 
-pub check_words : (words : List (String Global)) (command other : String Global) (text also : List ℕ) (test second is : Bool) → 3 ≤ length words → length words < 4
+pub check_words : (words : List (String Global)) (command other : String Global) (text also : List ℕ) (test second : Bool) → 3 ≤ length words → length words < 4
     → command ≡ get_or words 0 command → text ≡ string_bytes command → test ≡ bytes_eq text (codes "run") → test ≡ false
-    → other ≡ get_or words 0 other → also ≡ string_bytes other → second ≡ bytes_eq also (codes "check") → second ≡ is → form_of (texts words) ≡ form_if is Check
-check_words [] command other text also test second is least below at said by e l w n f = absurd (omega arith)
-check_words (a ∷ []) command other text also test second is least below at said by e l w n f = absurd (omega arith)
-check_words (a ∷ b ∷ []) command other text also test second is least below at said by e l w n f = absurd (omega arith)
-check_words (a ∷ b ∷ c ∷ []) command other text also test second is least below at said by e l w n f =
+    → other ≡ get_or words 0 other → also ≡ string_bytes other → second ≡ bytes_eq also (codes "check") → second ≡ true → form_of (texts words) ≡ Some Check
+check_words [] command other text also test second least below at said by e l w n f = absurd (omega arith)
+check_words (a ∷ []) command other text also test second least below at said by e l w n f = absurd (omega arith)
+check_words (a ∷ b ∷ []) command other text also test second least below at said by e l w n f = absurd (omega arith)
+check_words (a ∷ b ∷ c ∷ []) command other text also test second least below at said by e l w n f =
     let run = same_test command a text (codes "run") test false at said by e in
-    let check = same_test other a also (codes "check") second is l w n f in
-    ap (λ (r : Bool). long_form r (bytes_eq (string_bytes a) (codes "check")) (string_bytes c)) run ∙ ap (λ (k : Bool). form_if k Check) check
-check_words (a ∷ b ∷ c ∷ d ∷ more) command other text also test second is least below at said by e l w n f = absurd (omega arith)
+    let check = same_test other a also (codes "check") second true l w n f in
+    let plan : Bool = bytes_eq (string_bytes a) (codes "plan") in
+    ap (λ (r : Bool). long_form r (bytes_eq (string_bytes a) (codes "check")) plan (string_bytes c)) run ∙ ap (λ (k : Bool). long_form false k plan (string_bytes c)) check
+check_words (a ∷ b ∷ c ∷ d ∷ more) command other text also test second least below at said by e l w n f = absurd (omega arith)
+
+pub plan_words : (words : List (String Global)) (command other third : String Global) (text also that : List ℕ) (test second last is : Bool) → 3 ≤ length words → length words < 4
+    → command ≡ get_or words 0 command → text ≡ string_bytes command → test ≡ bytes_eq text (codes "run") → test ≡ false
+    → other ≡ get_or words 0 other → also ≡ string_bytes other → second ≡ bytes_eq also (codes "check") → second ≡ false
+    → third ≡ get_or words 0 third → that ≡ string_bytes third → last ≡ bytes_eq that (codes "plan") → last ≡ is → form_of (texts words) ≡ form_if is Plan
+plan_words [] command other third text also that test second last is least below at said by e l w n f x y z g = absurd (omega arith)
+plan_words (a ∷ []) command other third text also that test second last is least below at said by e l w n f x y z g = absurd (omega arith)
+plan_words (a ∷ b ∷ []) command other third text also that test second last is least below at said by e l w n f x y z g = absurd (omega arith)
+plan_words (a ∷ b ∷ c ∷ []) command other third text also that test second last is least below at said by e l w n f x y z g =
+    let run = same_test command a text (codes "run") test false at said by e in
+    let check = same_test other a also (codes "check") second false l w n f in
+    let plan = same_test third a that (codes "plan") last is x y z g in
+    ap (λ (r : Bool). long_form r (bytes_eq (string_bytes a) (codes "check")) (bytes_eq (string_bytes a) (codes "plan")) (string_bytes c)) run
+    ∙ ap (λ (k : Bool). long_form false k (bytes_eq (string_bytes a) (codes "plan")) (string_bytes c)) check
+    ∙ ap (λ (k : Bool). form_if k Plan) plan
+plan_words (a ∷ b ∷ c ∷ d ∷ more) command other third text also that test second last is least below at said by e l w n f x y z g = absurd (omega arith)

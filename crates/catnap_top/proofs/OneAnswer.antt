@@ -14,7 +14,7 @@ use Rattle.harvest_trace.specs.declared.row.TraceRow.{TraceRow}
 use Rattle.catnap_top.specs.declared.fault.Table.{Table}
 use Rattle.catnap_top.specs.declared.fault.Table.TheVariants as table
 use Rattle.catnap_top.specs.declared.words.Form.{Form}
-use Rattle.catnap_top.specs.declared.words.Form.TheVariants.{Run, List as Listing, Check, Replay, Bench}
+use Rattle.catnap_top.specs.declared.words.Form.TheVariants.{Run, List as Listing, Check, Plan, Replay, Bench}
 use Rattle.catnap_top.specs.declared.fault.Fault.TheVariants as fault
 use Rattle.catnap_top.specs.Answer.{Answer}
 use Rattle.catnap_top.specs.Alike.{AreAlike, Agree, IsSameProgram, AreSameFiles, AreSameLived}
@@ -30,6 +30,7 @@ use Rattle.catnap_top.proofs.Looks.{by_agree, then_agree, found_agree, comes_to_
 use Rattle.catnap_top.proofs.OneReport.{SameCode, life_agrees, reported_same, summed_same}
 use Rattle.catnap_top.specs.Bench.{summed}
 use Rattle.bench_input.specs.Input.{source_text, profile_text, trace_text, arrivals_text, failures_text}
+use Rattle.catnap_top.proofs.OnePlan.{PlansAgree, one_planning}
 use Rattle.catnap_top.proofs.Programs.{SameFirst, SameStep, SameListing, ran_same, listed_same, checked_same}
 
 -- ---- tables
@@ -113,7 +114,7 @@ module _ (source : (bytes : List ℕ) → Agree IsSameProgram (IsSource bytes) (
       (λ x y both. then_agree AreSameLived (λ a b. a ≡ b) _ _ _ _ (living_agree code one s d t a f x y both)
       (λ k l same. found_agree (λ a b. a ≡ b) _ _ (same_told k l same)))
 
-  module _ (first : SameFirst) (each : SameStep) (listing : SameListing) (code : SameCode) (one : LivesAreOne) where
+  module _ (first : SameFirst) (each : SameStep) (listing : SameListing) (code : SameCode) (one : LivesAreOne) (plans : PlansAgree) where
     one_looks : (form : Form) (files : List (List ℕ)) → Agree (λ (a b : Answer). a ≡ b) (looks_of form files) (looks_of form files)
     one_looks (Run steps) files =
         then_agree IsSameProgram (λ a b. a ≡ b) _ _ _ _ (programs (get_or files 0 []))
@@ -126,6 +127,7 @@ module _ (source : (bytes : List ℕ) → Agree IsSameProgram (IsSource bytes) (
         (λ p q are. then_agree (λ d e. d ≡ e) (λ a b. a ≡ b) _ _ _ _ (devices (get_or files 1 []))
         (λ d e same. then_agree (λ x y. x ≡ y) (λ a b. a ≡ b) _ _ _ _ (versions p q d e are same)
         (λ x y equal. found_agree (λ a b. a ≡ b) _ _ (checked_same p q x y are.same equal))))
+    one_looks Plan files = one_planning programs devices plans (get_or files 0 []) (get_or files 1 [])
     one_looks Replay files =
         telling_agrees code one (get_or files 0 []) (get_or files 1 []) (get_or files 2 []) (get_or files 3 []) (get_or files 4 [])
         (λ lived. reported lived.files lived.chosen lived.life) reported_same

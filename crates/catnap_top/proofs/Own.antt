@@ -1,7 +1,7 @@
 -- The statuses that words and files call for are none of the four that have causes of their own.
 use Rattle.std.proofs.Common.{◌≡◌, ℕ, List, Result, Ok, Err, true, refl, sym, subst}
 use Rattle.catnap_top.specs.declared.words.Form.{Form}
-use Rattle.catnap_top.specs.declared.words.Form.TheVariants.{Run, List as Listing, Check, Replay, Bench}
+use Rattle.catnap_top.specs.declared.words.Form.TheVariants.{Run, List as Listing, Check, Plan, Replay, Bench}
 use Rattle.catnap_top.specs.declared.fault.Fault.{Fault}
 use Rattle.catnap_top.specs.declared.fault.Fault.TheVariants as fault
 use Rattle.catnap_top.specs.declared.fault.Table.TheVariants as table
@@ -41,6 +41,7 @@ looks_own Listing files = then_finds IsOwn _ _ (λ p. found_finds IsOwn _ refl)
 looks_own Replay files = then_finds IsOwn _ _ (λ files. then_finds IsOwn _ _ (λ lived. found_finds IsOwn _ (end_own lived.life.end)))
 looks_own (Bench size) files = then_finds IsOwn _ _ (λ made. then_finds IsOwn _ _ (λ lived. found_finds IsOwn _ (end_own lived.life.end)))
 looks_own Check files = then_finds IsOwn _ _ (λ p. then_finds IsOwn _ _ (λ d. then_finds IsOwn _ _ (λ c. found_finds IsOwn _ refl)))
+looks_own Plan files = then_finds IsOwn _ _ (λ p. then_finds IsOwn _ _ (λ d. then_finds IsOwn _ _ (λ plan. found_finds IsOwn _ refl)))
 
 pub form_own : (form : Form) (files : List (List ℕ)) (due : Answer) → CallsFor form files due → IsOwn due
 form_own form files due h = subst IsOwn (sym h.due_is) (came_own (looks_of form files) h.came (looks_own form files) h.is)

@@ -43,7 +43,7 @@ module _ (first : SameFirst) (each : SameStep) (p q : Checked) (same : IsSame p 
 pub listed_same : SameListing → (p q : Checked) → IsSame p q → listed p ≡ listed q
 listed_same listing p q same = ap (λ text. record { status = Done; text = text }) (listing p q same)
 
-text_same : (p q : Checked) (c : Chosen) → IsSame p q → chosen_text p c ≡ chosen_text q c
+pub text_same : (p q : Checked) (c : Chosen) → IsSame p q → chosen_text p c ≡ chosen_text q c
 text_same p q c same =
     ap (λ (hs : List Event). in_turn (λ e. version_line (name_of (slice_get hs e)) (slice_index c.versions e) (slice_index_or c.loads e no_load)) (length p.events) ++ numbers_line c.numbers) same.headers
     ∙ ap (λ (l : List (List ℕ)). in_turn (event_line q c) (length l) ++ numbers_line c.numbers) same.events

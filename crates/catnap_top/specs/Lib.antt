@@ -15,10 +15,12 @@ pub mod Listed
 pub mod CompiledValue
 pub mod Bench
 pub mod Check
+pub mod Plan
 pub mod Replay
 pub mod Replayed
 pub mod Lives
 pub mod SelectedValue
+pub mod PlannedValue
 pub mod Reply
 pub mod Reads
 pub mod Course

@@ -1,7 +1,7 @@
 -- What the words and the files call for. Each command adds a case to both definitions.
 use Rattle.std.specs.Prelude.{ℕ, List, [], get_or}
 use Rattle.catnap_top.specs.declared.words.Form.{Form}
-use Rattle.catnap_top.specs.declared.words.Form.TheVariants.{Run, List as Listing, Check, Replay, Bench}
+use Rattle.catnap_top.specs.declared.words.Form.TheVariants.{Run, List as Listing, Check, Plan, Replay, Bench}
 use Rattle.catnap_top.specs.declared.reply.Reply.{Reply}
 use Rattle.catnap_top.specs.declared.reply.Reply.TheVariants as reply
 use Rattle.catnap_top.specs.Answer.{Answer, usage, read_fault}
@@ -11,6 +11,7 @@ use Rattle.catnap_top.specs.Run.{running}
 use Rattle.catnap_top.specs.ReadyValue.{ready_answer}
 use Rattle.catnap_top.specs.Listed.{listing, listed}
 use Rattle.catnap_top.specs.Check.{checking, checked}
+use Rattle.catnap_top.specs.Plan.{planning, planned}
 use Rattle.catnap_top.specs.Replay.{replaying}
 use Rattle.catnap_top.specs.Replayed.{lived_of, replayed_answer, IsReadyToTell}
 use Rattle.catnap_top.specs.Bench.{benching, summed}
@@ -20,6 +21,7 @@ abbrev pub looks_of : Form → List (List ℕ) → Look Answer
 looks_of (Run steps) files = running steps (get_or files 0 [])
 looks_of Listing files = listing (get_or files 0 [])
 looks_of Check files = checking (get_or files 0 []) (get_or files 1 [])
+looks_of Plan files = planning (get_or files 0 []) (get_or files 1 [])
 looks_of Replay files = replaying (get_or files 0 []) (get_or files 1 []) (get_or files 2 []) (get_or files 3 []) (get_or files 4 [])
 looks_of (Bench size) files = benching size
 
@@ -35,6 +37,7 @@ reply_answer (reply.Refused why) = fault_answer why
 reply_answer (reply.Run ready) = ready_answer ready
 reply_answer (reply.List compiled) = listed compiled.program
 reply_answer (reply.Check selected) = checked selected.program selected.chosen
+reply_answer (reply.Plan given) = planned given.program given.plan
 reply_answer (reply.Replay replayed) = replayed_answer replayed
 reply_answer (reply.Bench size replayed) = summed size (lived_of replayed)
 

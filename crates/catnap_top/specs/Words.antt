@@ -2,7 +2,7 @@
 use Rattle.std.specs.Prelude.{ℕ, ◌+◌, ◌-◌, ◌*◌, List, [], ◌∷◌, length, Bool, true, ◌&&◌, nat_le, Option, Some, None, option_map, bytes_eq, codes, map, take, drop, string_bytes, String, if◌then◌else◌}
 use Rattle.std.specs.declared.alloc.Global.{Global}
 use Rattle.catnap_top.specs.declared.words.Form.{Form}
-use Rattle.catnap_top.specs.declared.words.Form.TheVariants.{Run, List as Listing, Check, Replay, Bench}
+use Rattle.catnap_top.specs.declared.words.Form.TheVariants.{Run, List as Listing, Check, Plan, Replay, Bench}
 
 -- the bytes of each word
 abbrev pub texts : List (String Global) → List (List ℕ)
@@ -31,12 +31,13 @@ most_steps = 1000000
 abbrev pub most_size : ℕ
 most_size = 1665
 
--- `run SRC STEPS`, STEPS having 1 to 7 digits; `list SRC`; `check SRC DEVICE`; `replay SRC DEVICE TRACE ARRIVALS FAILS`; `bench N`, N having
--- 1 to 4 digits
+-- `run SRC STEPS`, STEPS having 1 to 7 digits; `list SRC`; `check SRC DEVICE`; `plan SRC DEVICE`; `replay SRC DEVICE TRACE ARRIVALS FAILS`;
+-- `bench N`, N having 1 to 4 digits
 abbrev pub form_of : List (List ℕ) → Option Form
 form_of (command ∷ source ∷ last ∷ []) =
     if bytes_eq command (codes "run") then option_map (λ n. Run n) (number_of 7 most_steps last)
-    else if bytes_eq command (codes "check") then Some Check else None
+    else if bytes_eq command (codes "check") then Some Check
+    else if bytes_eq command (codes "plan") then Some Plan else None
 form_of (command ∷ last ∷ []) =
     if bytes_eq command (codes "list") then Some Listing
     else if bytes_eq command (codes "bench") then option_map (λ n. Bench n) (number_of 4 most_size last) else None
@@ -48,6 +49,7 @@ abbrev pub file_count : Form → ℕ
 file_count (Run _) = 1
 file_count Listing = 1
 file_count Check = 2
+file_count Plan = 2
 file_count Replay = 5
 file_count (Bench _) = 0
 

@@ -11,6 +11,8 @@ mod line;
 mod list;
 mod one;
 mod places;
+mod plan;
+mod planned;
 mod profile;
 mod reading;
 mod ready;

@@ -12,6 +12,8 @@ use crate::compiled::Compiled;
 use crate::fault::Fault;
 use crate::line::put_read_fault;
 use crate::list::{prepare_list, write_list};
+use crate::plan::{prepare_plan, write_planned};
+use crate::planned::Planned;
 use crate::ready::Ready;
 use crate::replay::{Replayed, prepare_replay, status_for, write_replay};
 use crate::run::{prepare_run, write_run};
@@ -32,6 +34,7 @@ pub enum Reply {
     Run(Ready),
     List(Compiled),
     Check(Selected),
+    Plan(Planned),
     Replay(Replayed),
     Bench { size: u32, replayed: Replayed },
 }
@@ -44,7 +47,7 @@ impl Reply {
             Reply::Usage => Status::Usage,
             Reply::ReadFault(_) => Status::ReadFault,
             Reply::Refused(fault) => fault.status(),
-            Reply::Run(_) | Reply::List(_) | Reply::Check(_) => Status::Done,
+            Reply::Run(_) | Reply::List(_) | Reply::Check(_) | Reply::Plan(_) => Status::Done,
             Reply::Replay(replayed) | Reply::Bench { replayed, .. } => status_for(replayed.end),
         }
     }
@@ -61,6 +64,7 @@ impl Reply {
             Reply::Run(ready) => write_run(sink, ready),
             Reply::List(compiled) => write_list(sink, &compiled),
             Reply::Check(selected) => write_check(sink, &selected),
+            Reply::Plan(planned) => write_planned(sink, &planned),
             Reply::Replay(replayed) => write_replay(sink, replayed),
             Reply::Bench { size, replayed } => write_bench(sink, size, replayed),
         }
@@ -77,6 +81,7 @@ fn prepare(alloc: Global, form: Form, files: &[Vec<u8>]) -> Result<Reply, Stop>
         Form::Run { steps } => prepare_run(alloc, steps, files[0].as_slice()),
         Form::List => prepare_list(alloc, files[0].as_slice()),
         Form::Check => prepare_check(alloc, files[0].as_slice(), files[1].as_slice()),
+        Form::Plan => prepare_plan(alloc, files[0].as_slice(), files[1].as_slice()),
         Form::Replay => prepare_replay(
             alloc,
             files[0].as_slice(),

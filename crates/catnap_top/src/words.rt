@@ -16,6 +16,8 @@ pub enum Form {
     List,
     /// `check SRC DEVICE`
     Check,
+    /// `plan SRC DEVICE`
+    Plan,
     /// `replay SRC DEVICE TRACE ARRIVALS FAILS`
     Replay,
     /// `bench N`
@@ -29,7 +31,7 @@ impl Form {
     {
         match self {
             Form::Run { .. } | Form::List => 1,
-            Form::Check => 2,
+            Form::Check | Form::Plan => 2,
             Form::Replay => 5,
             Form::Bench { .. } => 0,
         }
@@ -72,6 +74,7 @@ pub fn form_in(words: &[String]) -> Option<Form>
             Some(Form::Run { steps })
         }
         [command, _, _] if command.as_str() == "check" => Some(Form::Check),
+        [command, _, _] if command.as_str() == "plan" => Some(Form::Plan),
         [command, _] if command.as_str() == "list" => Some(Form::List),
         [command, size] if command.as_str() == "bench" => {
             let size = number(size.as_str(), 4, MOST_SIZE)?;
