@@ -158,6 +158,8 @@ looks_cut Object files = then_leads _ _ _ _ (at_place program_in program_cut fil
 looks_cut Check files =
     then_leads _ _ _ _ (at_place program_in program_cut files 0) (λ p. then_leads _ _ _ _ (at_place device_in device_cut files 1) (λ d came h. h))
 looks_cut Replay files = then_leads _ _ _ _ (replay_files_cut files) (λ x came h. h)
+looks_cut Plan files =
+    then_leads _ _ _ _ (at_place program_in program_cut files 0) (λ p. then_leads _ _ _ _ (at_place device_in device_cut files 1) (λ d came h. h))
 looks_cut Image files = then_leads _ _ _ _ (replay_files_cut files) (λ x came h. h)
 looks_cut (Bench size) files = λ came h. h
 looks_cut Uplink files = then_leads _ _ _ _ (replay_files_cut files) (λ x. then_leads _ _ _ _ (at_place links_in links_cut files 5) (λ steps came h. h))

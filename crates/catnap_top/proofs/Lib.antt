@@ -13,6 +13,7 @@ pub mod Own
 pub mod Programs
 pub mod OneProfile
 pub mod OneChoice
+pub mod OnePlan
 pub mod OneAnswer
 pub mod Stopping
 pub mod Preparing

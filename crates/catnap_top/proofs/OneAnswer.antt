@@ -33,6 +33,7 @@ use Rattle.catnap_top.proofs.OneUplink.{OneUplinkText, uplinks_agree}
 use Rattle.catnap_top.specs.Image.{saved}
 use Rattle.catnap_top.specs.Bench.{summed}
 use Rattle.bench_input.specs.Input.{source_text, profile_text, trace_text, arrivals_text, failures_text}
+use Rattle.catnap_top.proofs.OnePlan.{PlansAgree, one_planning}
 use Rattle.catnap_top.proofs.Programs.{SameFirst, SameStep, SameListing, ran_same, listed_same, compiled_same, checked_same}
 
 -- ---- tables
@@ -116,7 +117,7 @@ module _ (source : (bytes : List ℕ) → Agree IsSameProgram (IsSource bytes) (
       (λ x y both. then_agree AreSameLived (λ a b. a ≡ b) _ _ _ _ (living_agree code one s d t a f x y both)
       (λ k l same. found_agree (λ a b. a ≡ b) _ _ (same_told k l same)))
 
-  module _ (first : SameFirst) (each : SameStep) (listing : SameListing) (code : SameCode) (one : LivesAreOne) (uplink : OneUplinkText) where
+  module _ (first : SameFirst) (each : SameStep) (listing : SameListing) (code : SameCode) (one : LivesAreOne) (uplink : OneUplinkText) (plans : PlansAgree) where
     one_looks : (form : Form) (files : List (List ℕ)) → Agree (λ (a b : Answer). a ≡ b) (looks_of form files) (looks_of form files)
     one_looks (Run steps) files =
         then_agree IsSameProgram (λ a b. a ≡ b) _ _ _ _ (programs (get_or files 0 []))
@@ -132,6 +133,7 @@ module _ (source : (bytes : List ℕ) → Agree IsSameProgram (IsSource bytes) (
         (λ p q are. then_agree (λ d e. d ≡ e) (λ a b. a ≡ b) _ _ _ _ (devices (get_or files 1 []))
         (λ d e same. then_agree (λ x y. x ≡ y) (λ a b. a ≡ b) _ _ _ _ (versions p q d e are same)
         (λ x y equal. found_agree (λ a b. a ≡ b) _ _ (checked_same p q x y are.same equal))))
+    one_looks Plan files = one_planning programs devices plans (get_or files 0 []) (get_or files 1 [])
     one_looks Replay files =
         telling_agrees code one (get_or files 0 []) (get_or files 1 []) (get_or files 2 []) (get_or files 3 []) (get_or files 4 [])
         (λ lived. reported lived.files lived.chosen lived.life) reported_same

@@ -32,7 +32,7 @@ abbrev pub ChoiceOrNot : Type 0
 ChoiceOrNot = (p q : Checked) (d : Device) (supply : Supply) (lines : ℕ) (b c : BoundsValue) → AreSettings p q d lines b c
     → (x : Chosen) (f : ChooseFault) → IsChoice p b d supply lines x → IsNoChoice q c d supply f → f ≡ choose.NoMemory
 
-lines_same : (p q : Checked) (d : Device) (l m : Layout) → IsSame p q → IsLayoutOf p d l → IsLayoutOf q d m → lines_of l ≡ lines_of m
+pub lines_same : (p q : Checked) (d : Device) (l m : Layout) → IsSame p q → IsLayoutOf p d l → IsLayoutOf q d m → lines_of l ≡ lines_of m
 lines_same p q d l m same first second =
     let words : l.words ≡ m.words = first.words ∙ ap length same.words ∙ sym second.words in
     let tasks : l.tasks ≡ m.tasks = first.tasks ∙ ap length same.tasks ∙ sym second.tasks in
@@ -51,7 +51,7 @@ one_why (none.Window s) (none.Rejected w) e = absurd (cc)
 one_why (none.Rejected v) (none.Window t) e = absurd (cc)
 one_why (none.Rejected v) (none.Rejected w) e = cc
 
-back : (p q : Checked) → IsSame p q → IsSame q p
+pub back : (p q : Checked) → IsSame p q → IsSame q p
 back p q same = record {
   variables = sym same.variables;
   words = sym same.words;

@@ -46,6 +46,7 @@ looks_own (Bench size) files = then_finds IsOwn _ _ (λ made. then_finds IsOwn _
 looks_own Uplink files =
     then_finds IsOwn _ _ (λ told. then_finds IsOwn _ _ (λ steps. then_finds IsOwn _ _ (λ lived. then_finds IsOwn _ _ (λ text. found_finds IsOwn _ (end_own lived.life.end)))))
 looks_own Check files = then_finds IsOwn _ _ (λ p. then_finds IsOwn _ _ (λ d. then_finds IsOwn _ _ (λ c. found_finds IsOwn _ refl)))
+looks_own Plan files = then_finds IsOwn _ _ (λ p. then_finds IsOwn _ _ (λ d. then_finds IsOwn _ _ (λ plan. found_finds IsOwn _ refl)))
 
 pub form_own : (form : Form) (files : List (List ℕ)) (due : Answer) → CallsFor form files due → IsOwn due
 form_own form files due h = subst IsOwn (sym h.due_is) (came_own (looks_of form files) h.came (looks_own form files) h.is)

@@ -51,7 +51,7 @@ compiled_same code p q same =
     ∙ ap (λ words. filed (spelling (record { code = code_of q; words = words; started = p.started }))) same.words
     ∙ ap (λ started. filed (spelling (record { code = code_of q; words = q.words; started = started }))) same.started
 
-text_same : (p q : Checked) (c : Chosen) → IsSame p q → chosen_text p c ≡ chosen_text q c
+pub text_same : (p q : Checked) (c : Chosen) → IsSame p q → chosen_text p c ≡ chosen_text q c
 text_same p q c same =
     ap (λ (hs : List Event). in_turn (λ e. version_line (name_of (slice_get hs e)) (slice_index c.versions e) (slice_index_or c.loads e no_load)) (length p.events) ++ numbers_line c.numbers) same.headers
     ∙ ap (λ (l : List (List ℕ)). in_turn (event_line q c) (length l) ++ numbers_line c.numbers) same.events

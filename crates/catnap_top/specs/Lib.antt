@@ -16,12 +16,14 @@ pub mod Object
 pub mod Bench
 pub mod Image
 pub mod Check
+pub mod Plan
 pub mod Replay
 pub mod Replayed
 pub mod Lives
 pub mod Uplink
 pub mod Uplinked
 pub mod SelectedValue
+pub mod PlannedValue
 pub mod Reply
 pub mod Reads
 pub mod Course

@@ -12,6 +12,7 @@ use Rattle.catnap_top.specs.ReadyValue.{ready_answer}
 use Rattle.catnap_top.specs.Listed.{listing, listed}
 use Rattle.catnap_top.specs.Object.{compiling, filed}
 use Rattle.catnap_top.specs.Check.{checking, checked}
+use Rattle.catnap_top.specs.Plan.{planning, planned}
 use Rattle.catnap_top.specs.Replay.{replaying}
 use Rattle.catnap_top.specs.Replayed.{lived_of, replayed_answer, IsReadyToTell}
 use Rattle.catnap_top.specs.Image.{saving, saved}
@@ -25,6 +26,7 @@ looks_of (Run steps) files = running steps (get_or files 0 [])
 looks_of Listing files = listing (get_or files 0 [])
 looks_of Object files = compiling (get_or files 0 [])
 looks_of Check files = checking (get_or files 0 []) (get_or files 1 [])
+looks_of Plan files = planning (get_or files 0 []) (get_or files 1 [])
 looks_of Replay files = replaying (get_or files 0 []) (get_or files 1 []) (get_or files 2 []) (get_or files 3 []) (get_or files 4 [])
 looks_of Image files = saving (get_or files 0 []) (get_or files 1 []) (get_or files 2 []) (get_or files 3 []) (get_or files 4 [])
 looks_of (Bench size) files = benching size
@@ -44,6 +46,7 @@ reply_answer (reply.Run ready) = ready_answer ready
 reply_answer (reply.List compiled) = listed compiled.program
 reply_answer (reply.Object file) = filed file.items
 reply_answer (reply.Check selected) = checked selected.program selected.chosen
+reply_answer (reply.Plan given) = planned given.program given.plan
 reply_answer (reply.Replay replayed) = replayed_answer replayed
 reply_answer (reply.Image replayed) = saved (lived_of replayed)
 reply_answer (reply.Bench size replayed) = summed size (lived_of replayed)

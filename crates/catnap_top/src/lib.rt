@@ -13,6 +13,8 @@ mod list;
 mod object;
 mod one;
 mod places;
+mod plan;
+mod planned;
 mod profile;
 mod reading;
 mod ready;

@@ -8,6 +8,7 @@ ghost use Rattle.catnap_top.specs.OneLife.{LivesAreOne};
 ghost use Rattle.catnap_words.specs.declared.form.Form.{Form as TheForm};
 ghost use Rattle.catnap_top.specs.Answer.{Answer};
 ghost use Rattle.catnap_top.specs.Files.{IsSource, IsProfile};
+ghost use Rattle.catnap_top.specs.Plan.{Plans};
 ghost use Rattle.catnap_top.specs.Served.{Serves};
 ghost use Rattle.degradation.specs.declared.supply.Supply.{Supply};
 ghost use Rattle.catnap_top.specs.Reply.{CallsFor};
@@ -17,6 +18,7 @@ use cat_places::one_starts;
 use cat_resolve::checked_law;
 use cat_syntax::one_tree;
 use cat_tokens::one_lexing;
+use cn_plan::one_plan_law;
 use cn_runtime::{plans_are_planned, plans_are_set_up};
 use cn_uplink::one_uplink_text;
 use degradation::choices_suit;
@@ -53,6 +55,13 @@ fn one_choice()
     one_choice_law();
 }
 
+/// Programs that say the same have one plan on a device, or none for one reason.
+fn one_plan()
+    ensures { (p q : Checked) (d : Device) → IsSameProgram p q → Agree (λ x y. x ≡ y) (Plans p d) (Plans q d) }
+{
+    one_plan_law();
+}
+
 /// Where bytes tell the files of a replay, and the device can serve the events in some versions, the life that follows is one.
 pub fn lives_are_one()
     ensures { LivesAreOne }
@@ -77,6 +86,7 @@ pub fn one_answer()
     one_source();
     one_profile();
     one_choice();
+    one_plan();
     lives_are_one();
     same_steps_law();
     same_code_law();

@@ -14,6 +14,8 @@ use crate::image::{prepare_image, write_image};
 use crate::line::put_read_fault;
 use crate::list::{prepare_list, write_list};
 use crate::object::{prepare_object, write_file};
+use crate::plan::{prepare_plan, write_planned};
+use crate::planned::Planned;
 use crate::ready::Ready;
 use crate::replay::{Replayed, prepare_replay, status_for, write_replay};
 use crate::run::{prepare_run, write_run};
@@ -37,6 +39,7 @@ pub enum Reply {
     /// The bytes of the object file.
     Object(Vec<u8>),
     Check(Selected),
+    Plan(Planned),
     Replay(Replayed),
     Image(Replayed),
     Bench { size: u32, replayed: Replayed },
@@ -51,7 +54,7 @@ impl Reply {
             Reply::Usage => Status::Usage,
             Reply::ReadFault(_) => Status::ReadFault,
             Reply::Refused(fault) => fault.status(),
-            Reply::Run(_) | Reply::List(_) | Reply::Object(_) | Reply::Check(_) => Status::Done,
+            Reply::Run(_) | Reply::List(_) | Reply::Object(_) | Reply::Check(_) | Reply::Plan(_) => Status::Done,
             Reply::Replay(replayed) | Reply::Image(replayed) | Reply::Bench { replayed, .. } => {
                 status_for(replayed.end)
             }
@@ -72,6 +75,7 @@ impl Reply {
             Reply::List(compiled) => write_list(sink, &compiled),
             Reply::Object(file) => write_file(sink, file.as_slice()),
             Reply::Check(selected) => write_check(sink, &selected),
+            Reply::Plan(planned) => write_planned(sink, &planned),
             Reply::Replay(replayed) => write_replay(sink, replayed),
             Reply::Image(replayed) => write_image(sink, &replayed),
             Reply::Bench { size, replayed } => write_bench(sink, size, replayed),
@@ -91,6 +95,7 @@ fn prepare(alloc: Global, form: Form, files: &[Vec<u8>]) -> Result<Reply, Stop>
         Form::List => prepare_list(alloc, files[0].as_slice()),
         Form::Object => prepare_object(alloc, files[0].as_slice()),
         Form::Check => prepare_check(alloc, files[0].as_slice(), files[1].as_slice()),
+        Form::Plan => prepare_plan(alloc, files[0].as_slice(), files[1].as_slice()),
         Form::Replay => prepare_replay(
             alloc,
             files[0].as_slice(),

@@ -64,6 +64,8 @@ fn respond<I: Inputs, K: Sink>(
 /// - `object SRC`: the object file of the source's code, its words' first values and its tasks' started posts.
 /// - `check SRC DEVICE`: the versions of least degradation in which the device can serve the source's
 ///   events, with what a job in each takes at most, and the numbers of that choice.
+/// - `plan SRC DEVICE`: the least harvest with which the device serves each event in its version 0, with the
+///   numbers at it, and why a smaller one does not do; or that no harvest does. The profile's own is not looked at.
 /// - `replay SRC DEVICE TRACE ARRIVALS FAILS`: the report of the source's life on the device, where the
 ///   trace, the arrivals and the failures are as these tables say.
 /// - `image SRC DEVICE TRACE ARRIVALS FAILS`: what that device holds at the end of this life, as a file of bytes.

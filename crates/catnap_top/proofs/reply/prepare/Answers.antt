@@ -44,6 +44,15 @@ returns-in-Check-clause-looks c =
     looks_as_form c.args.form Check (contents files) c.prepare_check.result c.in-Check.is
     (rw (source, profile) at c.prepare_check.ensures.looks)
 
+pub returns-in-Plan-clause-looks : goal.returns-in-Plan-clause-looks
+returns-in-Plan-clause-looks c =
+    let files = c.args.files.now in
+    let count : length files ≡ 2 = c.requires ∙ ap file_count c.in-Plan.is in
+    let source = file_at files 0 c.index-files-0-in-Plan.result c.as_slice-in-Plan.result.now (omega arith) c.as_slice-in-Plan.ensures.value c.index-files-0-in-Plan.is in
+    let profile = file_at files 1 c.index-files-1-in-Plan.result c.as_slice-in-Plan-2.result.now (omega arith) c.as_slice-in-Plan-2.ensures.value c.index-files-1-in-Plan.is in
+    looks_as_form c.args.form Plan (contents files) c.prepare_plan.result c.in-Plan.is
+    (rw (source, profile) at c.prepare_plan.ensures.looks)
+
 pub returns-in-Replay-clause-looks : goal.returns-in-Replay-clause-looks
 returns-in-Replay-clause-looks c =
     let files = c.args.files.now in

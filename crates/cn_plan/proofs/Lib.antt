@@ -1,0 +1,4 @@
+pub mod Richer
+pub mod Undegraded
+pub mod Verdicts
+pub mod OnePlan

@@ -1,0 +1,4 @@
+pub mod Harvest
+pub mod Whole
+pub mod Least
+pub mod Plan
