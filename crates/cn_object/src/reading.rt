@@ -225,6 +225,7 @@ fn has_few_parts(bytes: &[u8]) -> bool
 }
 
 fn after_events(bytes: &[u8]) -> &[u8]
+    requires { HasFewParts bytes.now }
     ensures { result.now ≡ after_events bytes.now }
 {
     let after_words = after(after(bytes, 12), 4 * word_count(bytes));

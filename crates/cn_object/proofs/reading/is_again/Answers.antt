@@ -5,11 +5,11 @@ use Rattle.cn_object.specs.Spelling.{parts_bytes}
 use Rattle.cn_object.proofs.Files.{slices_spell}
 use Rattle.cn_object.proofs.reading.is_again.Goals as goal
 
-pub spelled_with-file-requires-clause-words : goal.spelled_with-file-requires-clause-words
-spelled_with-file-requires-clause-words c = omega (arith, ap length c.as_slice-words.ensures, c.requires.words)
+pub spelled_with-requires-clause-words : goal.spelled_with-requires-clause-words
+spelled_with-requires-clause-words c = omega (arith, ap length c.as_slice-words.ensures, c.requires.words)
 
-pub spelled_with-file-requires-clause-started : goal.spelled_with-file-requires-clause-started
-spelled_with-file-requires-clause-started c = omega (arith, ap length c.as_slice-started.ensures, c.requires.started)
+pub spelled_with-requires-clause-started : goal.spelled_with-requires-clause-started
+spelled_with-requires-clause-started c = omega (arith, ap length c.as_slice-started.ensures, c.requires.started)
 
 pub returns : goal.returns
 returns c =
