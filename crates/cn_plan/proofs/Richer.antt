@@ -1,5 +1,5 @@
 -- What a greater harvest changes in the tests.
-use Rattle.std.proofs.Common.{ℕ, ◌≡◌, ◌*◌, ◌/◌, ◌≤◌, ◌-◌, ◌<◌, List, refl, arith}
+use Rattle.std.proofs.Common.{ℕ, ◌≡◌, ◌*◌, ◌/◌, ◌≤◌, List, refl, arith}
 use native.Mathlib.Nat.{mul-le-mul_right}
 use Rattle.demand_core.specs.declared.Load.{Load}
 use Rattle.demand_core.specs.declared.Base.{Base}

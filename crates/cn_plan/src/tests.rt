@@ -142,7 +142,10 @@ fn plans_the_least_harvest(rt: HostRuntime) -> Result<(), Fail> {
         assert_eq!(rt; spacing, None, "{source}");
     }
     let mut sink = MemSink::new(rt.alloc(), 1000, 7)?;
-    assert_eq!(rt; planned(rt.alloc(), TOO_LONG, &[], &mut sink)?, Some(999_983));
+    assert_eq!(rt;
+        planned(rt.alloc(), TOO_LONG, &[], &mut sink)?,
+        Some(999_983)
+    );
     Ok(())
 }
 

@@ -1,4 +1,4 @@
-use Rattle.std.proofs.Common.{◌≡◌, List, [], length, ap, subst, sym, ◌∙◌}
+use Rattle.std.proofs.Common.{◌≡◌, [], length, ap, subst, sym, ◌∙◌}
 use Rattle.demand_core.specs.Demand.{IsWindow}
 use Rattle.feasibility.specs.Chosen.{versions_of}
 use Rattle.degradation.specs.Choice.{tables_of}

@@ -1,5 +1,5 @@
 use Rattle.std.proofs.Common.{◌≡◌, ◌<◌, ◌≤◌, List, [], length, All, ap, sym, ◌∙◌, subst, arith}
-use Rattle.std.proofs.lemmas.List.Elements.{All-nil, All-push}
+use Rattle.std.proofs.lemmas.List.Elements.{All-push}
 use Rattle.demand_core.specs.declared.Load.{Load}
 use Rattle.feasibility.specs.Chosen.{loads_of}
 use Rattle.degradation.specs.Choice.{tables_of}
