@@ -76,6 +76,20 @@ def replay(source, device, ticks, arrivals=(), failures=()):
     return files, ["replay", "S", "D", "T", "A", "F"]
 
 
+def image(case):
+    """The same files for the command `image`."""
+    files, words = case
+    return files, ["image", *words[1:]]
+
+
+def uplink(case, steps):
+    """The same files and a link whose packets are sent, delivered and acknowledged in turn."""
+    files, words = case
+    turns = (f"{step},{i}" for i in range(steps // 3) for step in ("send", "data", "ack"))
+    rows = ["grow,999999", *(turn if turn[0] != "s" else "send,0" for turn in turns)]
+    return {**files, "L": table("step,n", rows)}, ["uplink", *words[1:], "L"]
+
+
 def cases(part):
     """The cases, by their names, as files and words: on all of their input, or on one of `part` parts of it."""
     million = 1000000 // part
@@ -97,6 +111,9 @@ def cases(part):
         "run-loop-1000000": ({"F": LOOP}, ["run", "F", str(million)]),
         "run-outputs-1000000": ({"F": OUTPUTS}, ["run", "F", str(million)]),
         "list-60000": ({"F": task}, ["list", "F"]),
+        "object-60000": ({"F": task}, ["object", "F"]),
+        # the harvest is searched for by halves, and each test has a window of 720,720 ticks
+        "plan-16-events": ({"F": many, "D": DEVICE.format(q=1)}, ["plan", "F", "D"]),
         "run-14900-sums": ({"F": long_task("x=x+1;", 14900 // part)}, ["run", "F", "1000000"]),
         "run-29000-outputs": ({"F": long_task("out 1,x;", 29000 // part)}, ["run", "F", "1000000"]),
         "run-names-1024": (
@@ -116,6 +133,9 @@ def cases(part):
         "replay-arrivals-100000": replay(
             "event e spacing 10 deadline 10 { }\n", NODE.format(q=15), trace(f"{million},2,0,0"), arrivals=[f"{10 * i},e,0" for i in range(100000 // part)]
         ),
+        # the image of a long log, and the same log over a link with the most steps that a table may have
+        "image-events-10000": image(replay(PERIODIC, NODE.format(q=5), rests)),
+        "uplink-100000-steps": uplink(replay(PERIODIC, NODE.format(q=5), rests), 100000 // part),
         # a replay of the program's own files, in sizes that grow
         **{f"bench-{size}": ({}, ["bench", str(size // part)]) for size in (100, 200, 400, 800, 1665)},
     }
