@@ -17,6 +17,6 @@ returns-in_err-steps-clause-looks c =
 pub returns-in-Ok-clause-looks : goal.returns-in-Ok-clause-looks
 returns-in-Ok-clause-looks c = goes c.in_ok-files.files c.in_ok-files.ensures.looks (goes c.in_ok-steps.steps c.in_ok-steps.ensures c.in-Ok.ensures)
 
-pub returns-in-Err-clause-looks : goal.returns-in-Err-clause-looks
-returns-in-Err-clause-looks c =
+pub returns-clause-looks : goal.returns-clause-looks
+returns-clause-looks c =
     stops_next _ _ c.in_ok-files.files c.in-Err.stop c.in_ok-files.ensures.looks (stops_next _ _ c.in_ok-steps.steps c.in-Err.stop c.in_ok-steps.ensures c.in-Err.ensures)

@@ -3,8 +3,8 @@ use Rattle.cn_uplink.specs.Wire.{WorldValue}
 use Rattle.catnap_top.proofs.Sending.{has_sent}
 use Rattle.catnap_top.proofs.uplink.send.Goals as goal
 
-pub play-requires : goal.play-requires
-play-requires c = omega (arith, ap (λ (w : WorldValue). w.left) c.in-Ok.ensures, c.rows.ensures.count)
+pub play-counts-requires : goal.play-counts-requires
+play-counts-requires c = omega (arith, ap (λ (w : WorldValue). w.left) c.in-Ok.ensures, c.rows.ensures.count)
 
 pub returns-in-Ok : goal.returns-in-Ok
 returns-in-Ok c =
