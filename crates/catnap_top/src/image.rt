@@ -17,8 +17,8 @@ use cn_resume::write_saved;
 use std::alloc::Global;
 
 /// Writes the saved image. Takes no memory.
-pub fn write_image<K: Sink>(sink: &mut K, replayed: &Replayed) -> Result<(), WriteFail>
-    ensures text { Writes (K.written sink.old) (K.written sink.new) (saved (lived_of replayed.now)).text result }
+pub fn write_image<K: Sink>(sink: &mut K, replayed: Replayed) -> Result<(), WriteFail>
+    ensures text { Writes (K.written sink.old) (K.written sink.new) (saved (lived_of replayed)).text result }
     ensures cause { HasCause (K.faults sink.old) (K.faults sink.new) result }
 {
     write_saved(&replayed.board, sink)

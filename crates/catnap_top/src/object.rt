@@ -16,11 +16,11 @@ use cn_object::object_of;
 use std::alloc::Global;
 
 /// Writes the bytes of a file. Takes no memory.
-pub fn write_file<K: Sink>(sink: &mut K, file: &[u8]) -> Result<(), WriteFail>
-    ensures text { Writes (K.written sink.old) (K.written sink.new) (filed file.now).text result }
+pub fn write_file<K: Sink>(sink: &mut K, file: Vec<u8>) -> Result<(), WriteFail>
+    ensures text { Writes (K.written sink.old) (K.written sink.new) (filed file.items).text result }
     ensures cause { HasCause (K.faults sink.old) (K.faults sink.new) result }
 {
-    put(sink, file)
+    put(sink, file.as_slice())
 }
 
 /// Makes the object file of a source. It takes all memory of the command.

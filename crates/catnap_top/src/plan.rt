@@ -22,8 +22,8 @@ use nv_memory::Device;
 use std::alloc::Global;
 
 /// Writes the plan. Takes no memory.
-pub fn write_planned<K: Sink>(sink: &mut K, given: &Planned) -> Result<(), WriteFail>
-    ensures text { Writes (K.written sink.old) (K.written sink.new) (planned given.now.program given.now.plan).text result }
+pub fn write_planned<K: Sink>(sink: &mut K, given: Planned) -> Result<(), WriteFail>
+    ensures text { Writes (K.written sink.old) (K.written sink.new) (planned given.program given.plan).text result }
     ensures cause { HasCause (K.faults sink.old) (K.faults sink.new) result }
 {
     write_plan(&given.program, &given.plan, sink)

@@ -73,13 +73,13 @@ impl Reply {
             Reply::Refused(fault) => fault.write(sink),
             Reply::Run(ready) => write_run(sink, ready),
             Reply::List(compiled) => write_list(sink, &compiled),
-            Reply::Object(file) => write_file(sink, file.as_slice()),
+            Reply::Object(file) => write_file(sink, file),
             Reply::Check(selected) => write_check(sink, &selected),
-            Reply::Plan(planned) => write_planned(sink, &planned),
+            Reply::Plan(planned) => write_planned(sink, planned),
             Reply::Replay(replayed) => write_replay(sink, replayed),
-            Reply::Image(replayed) => write_image(sink, &replayed),
+            Reply::Image(replayed) => write_image(sink, replayed),
             Reply::Bench { size, replayed } => write_bench(sink, size, replayed),
-            Reply::Uplink(uplinked) => write_uplinked(sink, &uplinked),
+            Reply::Uplink(uplinked) => write_uplinked(sink, uplinked),
         }
     }
 }

@@ -28,8 +28,8 @@ pub struct Uplinked {
 }
 
 /// Writes the numbers of the link and the host's records. Takes no memory.
-pub fn write_uplinked<K: Sink>(sink: &mut K, uplinked: &Uplinked) -> Result<(), WriteFail>
-    ensures text { Writes (K.written sink.old) (K.written sink.new) (uplinked_answer uplinked.now).text result }
+pub fn write_uplinked<K: Sink>(sink: &mut K, uplinked: Uplinked) -> Result<(), WriteFail>
+    ensures text { Writes (K.written sink.old) (K.written sink.new) (uplinked_answer uplinked).text result }
     ensures cause { HasCause (K.faults sink.old) (K.faults sink.new) result }
 {
     write_uplink(
