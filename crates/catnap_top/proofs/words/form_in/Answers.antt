@@ -1,5 +1,5 @@
 use Rattle.std.proofs.Common.{Some, None, true, false, sym, arith, ◌∙◌}
-use Rattle.catnap_top.proofs.Forms.{check_words, run_words, six_words, two_words}
+use Rattle.catnap_top.proofs.Forms.{check_words, plan_words, run_words, six_words, two_words}
 use Rattle.catnap_top.proofs.words.form_in.Goals as goal
 
 pub returns-in-len2-clause-form : goal.returns-in-len2-clause-form
@@ -11,13 +11,13 @@ pub returns-in-len6-clause-form : goal.returns-in-len6-clause-form
 returns-in-len6-clause-form c =
     sym (six_words c.args.words.now c.command-item-then-words-lt7.result c.as_str-then-words-lt7.result.now c.eq-then-words-lt7.result true
     (omega (arith, c.in-len6.len_at_least)) (omega (arith, c.in-len6.len_below)) c.command-item-then-words-lt7.is c.as_str-then-words-lt7.ensures.value
-    c.eq-then-words-lt7.ensures c.if-eq-5.true)
+    c.eq-then-words-lt7.ensures c.if-eq-6.true)
 
 pub returns-in_default-5-clause-form : goal.returns-in_default-5-clause-form
 returns-in_default-5-clause-form c =
     sym (six_words c.args.words.now c.command-item-then-words-lt7.result c.as_str-then-words-lt7.result.now c.eq-then-words-lt7.result false
     (omega (arith, c.in-len6.len_at_least)) (omega (arith, c.in-len6.len_below)) c.command-item-then-words-lt7.is c.as_str-then-words-lt7.ensures.value
-    c.eq-then-words-lt7.ensures c.if-eq-5.false)
+    c.eq-then-words-lt7.ensures c.if-eq-6.false)
 
 pub returns-in_ok-steps-in-len3-clause-form : goal.returns-in_ok-steps-in-len3-clause-form
 returns-in_ok-steps-in-len3-clause-form c =
@@ -32,12 +32,22 @@ returns-in_err-steps-in-len3-clause-form c =
 
 pub returns-in-len3-2-clause-form : goal.returns-in-len3-2-clause-form
 returns-in-len3-2-clause-form c =
-    sym (check_words c.args.words.now c.command-item-then-words-lt4.result c.command-item-then-words-lt4-2.result c.as_str-then-words-lt4.result.now c.as_str-then-words-lt4-2.result.now c.eq-then-words-lt4.result c.eq-then-words-lt4-2.result true
+    sym (check_words c.args.words.now c.command-item-then-words-lt4.result c.command-item-then-words-lt4-2.result c.as_str-then-words-lt4.result.now c.as_str-then-words-lt4-2.result.now c.eq-then-words-lt4.result c.eq-then-words-lt4-2.result
     (omega (arith, c.in-len3.len_at_least)) (omega (arith, c.in-len3.len_below)) c.command-item-then-words-lt4.is c.as_str-then-words-lt4.ensures.value c.eq-then-words-lt4.ensures c.if-eq-3.false
     c.command-item-then-words-lt4-2.is c.as_str-then-words-lt4-2.ensures.value c.eq-then-words-lt4-2.ensures c.if-eq-4.true)
 
+pub returns-in-len3-3-clause-form : goal.returns-in-len3-3-clause-form
+returns-in-len3-3-clause-form c =
+    sym (plan_words c.args.words.now c.command-item-then-words-lt4.result c.command-item-then-words-lt4-2.result c.command-item-then-words-lt4-3.result
+    c.as_str-then-words-lt4.result.now c.as_str-then-words-lt4-2.result.now c.as_str-then-words-lt4-3.result.now c.eq-then-words-lt4.result c.eq-then-words-lt4-2.result c.eq-then-words-lt4-3.result true
+    (omega (arith, c.in-len3.len_at_least)) (omega (arith, c.in-len3.len_below)) c.command-item-then-words-lt4.is c.as_str-then-words-lt4.ensures.value c.eq-then-words-lt4.ensures c.if-eq-3.false
+    c.command-item-then-words-lt4-2.is c.as_str-then-words-lt4-2.ensures.value c.eq-then-words-lt4-2.ensures c.if-eq-4.false
+    c.command-item-then-words-lt4-3.is c.as_str-then-words-lt4-3.ensures.value c.eq-then-words-lt4-3.ensures c.if-eq-5.true)
+
 pub returns-in_default-3-clause-form : goal.returns-in_default-3-clause-form
 returns-in_default-3-clause-form c =
-    sym (check_words c.args.words.now c.command-item-then-words-lt4.result c.command-item-then-words-lt4-2.result c.as_str-then-words-lt4.result.now c.as_str-then-words-lt4-2.result.now c.eq-then-words-lt4.result c.eq-then-words-lt4-2.result false
+    sym (plan_words c.args.words.now c.command-item-then-words-lt4.result c.command-item-then-words-lt4-2.result c.command-item-then-words-lt4-3.result
+    c.as_str-then-words-lt4.result.now c.as_str-then-words-lt4-2.result.now c.as_str-then-words-lt4-3.result.now c.eq-then-words-lt4.result c.eq-then-words-lt4-2.result c.eq-then-words-lt4-3.result false
     (omega (arith, c.in-len3.len_at_least)) (omega (arith, c.in-len3.len_below)) c.command-item-then-words-lt4.is c.as_str-then-words-lt4.ensures.value c.eq-then-words-lt4.ensures c.if-eq-3.false
-    c.command-item-then-words-lt4-2.is c.as_str-then-words-lt4-2.ensures.value c.eq-then-words-lt4-2.ensures c.if-eq-4.false)
+    c.command-item-then-words-lt4-2.is c.as_str-then-words-lt4-2.ensures.value c.eq-then-words-lt4-2.ensures c.if-eq-4.false
+    c.command-item-then-words-lt4-3.is c.as_str-then-words-lt4-3.ensures.value c.eq-then-words-lt4-3.ensures c.if-eq-5.false)
