@@ -38,6 +38,7 @@ FILE_LIMIT = 16777216
 
 NAME = r"[A-Za-z_]\w{0,30}"
 CHOSEN = rf"(?:version {NAME} \d units \d+ ticks \d+\n)*numbers lines \d+ checkpoint \d+ section \d+ reserve \d+ level \d+ window \d+\n"
+PLAN = rf"plan \d+\n{CHOSEN}below (?:none|F[12] \d+ \d+)\n|plan none F(?:1|2|3 \d+) \d+ \d+\n"
 LIFE = rf"(?:dropped \d+ {NAME}\n)*(?:lost \d+\n|(?:boot|commit) \d+ \d+ \d+\n)*"
 LOG = rf"(?:out \d+ -?\d+\n|ran {NAME} \d+ \d \d+ \d+ \d+ (?:met|late)\n)*"
 REPORT = CHOSEN + LIFE + LOG + rf"end \d+ \d+ \d+ %s\n(?:var {NAME}(?: -?\d+)+\n)*"
@@ -59,10 +60,11 @@ TEXTS = {
     "run": {0: r"(?:out \d+ -?\d+\n)*steps \d+\n"},
     "list": {0: rf"(?:(?:task {NAME}|event {NAME} \d) \d+\n|\d+ [a-z]+(?: \d+)*\n)*"},
     "check": {0: CHOSEN},
+    "plan": {0: PLAN},
     "replay": {0: REPORT % "trace", 12: REPORT % "log"},
     "bench": {0: r"bench \d+\nticks \d+\nran \d+\nmet \d+\nlost \d+\ndropped \d+\nouts \d+\nend \d+ trace\n"},
 }
-REFUSED = {"run": (2, 3, 5), "list": (2, 3, 5), "check": (2, 3, 5, 6, 10, 11), "replay": (2, 3, 5, 6, 7, 8, 9, 10, 11), "bench": (2,)}
+REFUSED = {"run": (2, 3, 5), "list": (2, 3, 5), "check": (2, 3, 5, 6, 10, 11), "plan": (2, 3, 5, 6, 10), "replay": (2, 3, 5, 6, 7, 8, 9, 10, 11), "bench": (2,)}
 # the texts of each command by their statuses; words of no command have one
 WHOLE = {None: {2: re.compile(FAULTS[2].encode())}}
 for command, texts in TEXTS.items():
@@ -77,7 +79,7 @@ FILES = {"source": NODE + b"start mean;\n"}
 for name, example in (("device", "node.toml"), ("trace", "node-trace.csv"), ("arrivals", "node-arrivals.csv"), ("failures", "node-failures.csv")):
     with open(os.path.join(TOP, "examples", example), "rb") as file:
         FILES[name] = file.read()
-FORMS = [["run", "source", "100"], ["list", "source"], ["check", "source", "device"], generate.REPLAY]
+FORMS = [["run", "source", "100"], ["list", "source"], ["check", "source", "device"], ["plan", "source", "device"], generate.REPLAY]
 
 
 def places(words):
@@ -178,7 +180,7 @@ def unreadable(tests, short):
 def odd_words(tests, short):
     """Words of no form, and files that come through a pipe."""
     lists = [[], [""], ["run"], ["run", "source"], ["run", "source", "1", "1"], ["Run", "source", "1"], ["run\n", "source", "1"], ["-h"], ["--version"]]
-    lists += [["list"], ["list", "source", "source"], ["check", "source"], generate.REPLAY[:-1], [*generate.REPLAY, "source"], ["replay"] + [""] * 6]
+    lists += [["list"], ["list", "source", "source"], ["check", "source"], ["plan", "source"], generate.REPLAY[:-1], [*generate.REPLAY, "source"], ["replay"] + [""] * 6]
     lists += [["x" * 100000], ["run"] * 10000, ["list", "\udcff"], ["\udcc3("]]
     for words in lists:
         tests.look(f"words {str(words)[:60]}", words, (2, b"fault usage\n"))
@@ -444,7 +446,7 @@ TABLES = {
 
 
 def tables(tests, short):
-    words = FORMS[3]
+    words = generate.REPLAY
     for name, (place, header, row, ranges, status) in TABLES.items():
         kind = "fails" if name == "failures" else name
 
