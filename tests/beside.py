@@ -4,7 +4,7 @@
 usage: tests/beside.py PROGRAM OTHER [COUNT] [--seed N] [--keep FOLDER]
 
 Each of COUNT cases (1000) is a random source on a random device, with a random trace, arrivals and failures. Both
-programs are asked to run it, to list it, to check it and to replay it some times: without failures, with failures at
+programs are asked to run it, to list it, to check it, to plan for it and to replay it some times: without failures, with failures at
 random, in long rows, and in each tick of the writes that the first replay told of. Status and bytes must be the same.
 Each case that differs is printed, and kept in FOLDER with both answers. The last lines count the answers by command and
 status, and say 'N passed, M failed'.
@@ -56,6 +56,7 @@ class Beside:
         self.ask(label, ["list", "source"])
         for _ in range(6):
             self.put(device=generate.any_device(random))
+            self.ask(label, ["plan", "source", "device"])
             if self.ask(label, ["check", "source", "device"]).status == 0:
                 break
         self.put(trace=generate.any_trace(random), arrivals=generate.any_arrivals(random, self.files["source"]), failures=generate.failures([]))

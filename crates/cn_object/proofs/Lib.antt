@@ -12,5 +12,6 @@ pub mod Inner
 pub mod Nesting
 pub mod Repeats
 pub mod Around
+pub mod Verdicts
 pub mod Ways
 pub mod Counting

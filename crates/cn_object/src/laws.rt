@@ -8,11 +8,19 @@ ghost use Rattle.cn_object.specs.declared.object.Object.{Object as Program};
 ghost use Rattle.cn_object.specs.Spelling.{IsFileOf};
 ghost use Rattle.cn_object.specs.Fitting.{FitsCode};
 ghost use Rattle.cn_object.specs.Running.{first_of};
-ghost use Rattle.cn_object.specs.Verdict.{IsVerifiedObject};
+ghost use Rattle.cn_object.specs.declared.object.Kind.{Kind as Rule};
+ghost use Rattle.cn_object.specs.Verdict.{IsBad, IsGood, IsVerifiedObject};
 
 /// Bytes are the file of one object at most: a law of the definitions.
 pub fn one_object_law()
     ensures { (a b : Program) (bytes : List ℕ) → IsFileOf a bytes → IsFileOf b bytes → a ≡ b }
+{}
+
+/// Bytes have one verdict: they are refused for one kind at one place, and only where they aren't the file of an object whose code
+/// can be run. A law of the definitions.
+pub fn one_verdict_law()
+    ensures refused { (bytes : List ℕ) (kind also : Rule) (place other : ℕ) → IsBad bytes kind place → IsBad bytes also other → (kind ≡ also) × (place ≡ other) }
+    ensures either { (bytes : List ℕ) (o : Program) (kind : Rule) (place : ℕ) → IsGood bytes o → ¬ IsBad bytes kind place }
 {}
 
 /// Verified code is never stuck: wherever a step may be asked for, the instruction is there, and finds its operands, words and
