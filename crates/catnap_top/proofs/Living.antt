@@ -39,7 +39,7 @@ use Rattle.cn_report.specs.Whole.{IsReplayed as IsTold}
 use Rattle.catnap_top.specs.declared.files.ReplayFiles.{ReplayFiles}
 use Rattle.catnap_top.specs.declared.fault.NoChoice.TheVariants as none
 use Rattle.catnap_top.specs.Look.{Stops, fits, fails, goes}
-use Rattle.catnap_top.specs.Lives.{Life, Lived, Lives, first_point}
+use Rattle.catnap_top.specs.Lives.{Life, Lives, first_point}
 use Rattle.catnap_top.specs.Served.{versions_in, stop_of_replay}
 use Rattle.catnap_top.specs.declared.replay.Replayed.{Replayed}
 use Rattle.catnap_top.specs.Replay.{living}

@@ -1,11 +1,11 @@
 -- A list of tokens, and a tree, has one fault.
-use Rattle.std.proofs.Common.{◌≡◌, ℕ, zero, suc, ◌<◌, ◌≤◌, List, [], ◌∷◌, length, take, get_or, Some, inl, inr, refl, ap, sym, ◌∙◌, subst, arith}
+use Rattle.std.proofs.Common.{◌≡◌, ℕ, zero, suc, ◌<◌, List, [], ◌∷◌, length, take, get_or, Some, inl, inr, refl, ap, sym, ◌∙◌, subst, arith}
 use Rattle.std.proofs.lemmas.Bool.{cases_lt}
 use Rattle.cat_tokens.specs.Lexemes.{Lexeme}
 use Rattle.cn_base.specs.declared.tree.Item.{Item}
 use Rattle.cat_syntax.specs.declared.fault.SyntaxFault.{SyntaxFault}
 use Rattle.cat_syntax.specs.declared.fault.SyntaxFault.TheVariants as syntax
-use Rattle.cat_syntax.specs.Spells.{IsFirstDeep, IsUnspelled, Spells, IsFault}
+use Rattle.cat_syntax.specs.Spells.{IsUnspelled, Spells, IsFault}
 use Rattle.cat_conditions.specs.declared.fault.TypeFault.{TypeFault}
 use Rattle.cat_conditions.specs.declared.fault.TypeFault.TheVariants as type
 use Rattle.cat_conditions.specs.Pieces.{Piece}

@@ -1,5 +1,5 @@
 -- `plan` over a source and a profile comes to one answer.
-use Rattle.std.proofs.Common.{◌≡◌, ℕ, ◌+◌, ◌/◌, ◌++◌, List, length, Ok, Err, refl, ap, sym, ◌∙◌, subst}
+use Rattle.std.proofs.Common.{◌≡◌, ℕ, ◌++◌, List, Ok, Err, refl, ap, sym, ◌∙◌, subst}
 use Rattle.cat_program.specs.Checked.{Checked}
 use Rattle.nv_memory.specs.declared.device.Device.{Device}
 use Rattle.nv_memory.specs.declared.layout.Layout.{Layout}

@@ -1,5 +1,5 @@
 -- Files that tell the same call for the same lives, and the same is told of them.
-use Rattle.std.proofs.Common.{◌≡◌, ℕ, false, List, length, map, None, replicate, refl, sym, ap, ◌∙◌, subst}
+use Rattle.std.proofs.Common.{◌≡◌, ℕ, false, List, length, map, None, replicate, sym, ap, ◌∙◌, subst}
 use Rattle.cat_program.specs.declared.headers.Event.{Event}
 use Rattle.cat_program.specs.Checked.{Checked}
 use Rattle.cat_machine.specs.Code.{code_of}

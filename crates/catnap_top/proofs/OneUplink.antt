@@ -1,5 +1,5 @@
 -- A life has one log, and a log and a link one text.
-use Rattle.std.proofs.Common.{◌≡◌, ℕ, List, refl, sym, ap, subst}
+use Rattle.std.proofs.Common.{◌≡◌, ℕ, List, sym, ap, subst}
 use Rattle.board_core.specs.Reached.{model_start}
 use Rattle.cat_program.specs.declared.headers.Event.{Event}
 use Rattle.cat_program.specs.declared.outs.LogEntry.{LogEntry}

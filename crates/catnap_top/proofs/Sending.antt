@@ -1,5 +1,5 @@
 -- The committed log of a replay, sent over a link.
-use Rattle.std.proofs.Common.{◌≡◌, ℕ, List, Ok, refl, sym, ap, ◌∙◌, subst}
+use Rattle.std.proofs.Common.{◌≡◌, List, Ok, refl, ap, ◌∙◌, subst}
 use Rattle.cat_program.specs.declared.outs.LogEntry.{LogEntry}
 use Rattle.cn_uplink.specs.Link.{Link, IsFinish, course, first}
 use Rattle.cn_uplink.specs.Text.{counts_of, uplink_text}

@@ -22,8 +22,8 @@ use crate::run::{prepare_run, write_run};
 use crate::selected::Selected;
 use crate::stop::Stop;
 use crate::uplink::{Uplinked, prepare_uplink, write_uplinked};
-use cn_base::{NoMemory, Sink, WriteFail, put};
 use catnap_words::Form;
+use cn_base::{NoMemory, Sink, WriteFail, put};
 use std::alloc::Global;
 
 /// What is to be answered. All memory for it has been taken.
@@ -54,7 +54,8 @@ impl Reply {
             Reply::Usage => Status::Usage,
             Reply::ReadFault(_) => Status::ReadFault,
             Reply::Refused(fault) => fault.status(),
-            Reply::Run(_) | Reply::List(_) | Reply::Object(_) | Reply::Check(_) | Reply::Plan(_) => Status::Done,
+            Reply::Run(_) | Reply::List(_) | Reply::Object(_) | Reply::Check(_) | Reply::Plan(_) =>
+                Status::Done,
             Reply::Replay(replayed) | Reply::Image(replayed) | Reply::Bench { replayed, .. } => {
                 status_for(replayed.end)
             }

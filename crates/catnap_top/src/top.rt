@@ -9,7 +9,6 @@ use crate::Status;
 use crate::headline::replays_show_runs;
 use crate::reading::{ReadStop, read_files};
 use crate::reply::{Reply, reply_to};
-
 use catnap_words::{form_in, names_in};
 use cn_base::{Inputs, Sink};
 use std::alloc::Global;

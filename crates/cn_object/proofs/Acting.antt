@@ -1,15 +1,14 @@
 -- Whether an action comes soon.
-use Rattle.std.proofs.Common.{◌≡◌, ℕ, ◌+◌, ◌-◌, ◌<◌, ◌≤◌, ◌⊎◌, inl, inr, List, length, get_or, refl, sym, ◌∙◌, ap, subst, Bool, true, false, arith}
-use Rattle.std.specs.Prelude.{◌↔◌, Option, Some, None, slice_get, slice_set, slice_index_or, unwrap_or, nat_lt, ◌==◌, replicate}
-use Rattle.std.proofs.lemmas.Option.{slice_get-get_or, slice_get_within, slice_get_past, unwrap_or-slice_get}
+use Rattle.std.proofs.Common.{◌≡◌, ℕ, ◌+◌, ◌<◌, ◌≤◌, ◌⊎◌, inl, inr, List, length, refl, sym, ◌∙◌, ap, subst, Bool, true, false, arith}
+use Rattle.std.specs.Prelude.{◌↔◌, Some, None, slice_get, slice_set, slice_index_or, unwrap_or, nat_lt, ◌==◌}
+use Rattle.std.proofs.lemmas.Option.{slice_get_within, slice_get_past, unwrap_or-slice_get}
 use Rattle.std.proofs.lemmas.List.{get_or-set_same, get_or-set_other, length-set}
 use borrow.Author.Tests.{eqb-true, eqb-false, ltb-true, ltb-false}
 use Rattle.cat_machine.specs.declared.instr.Instr.{Instr}
-use Rattle.cat_machine.specs.declared.instr.Instr.TheVariants as i
 use Rattle.cat_machine.specs.CodeValue.{CodeValue}
 use Rattle.cost_bounds.specs.Paths.{acts}
 use Rattle.cn_object.specs.Operands.{target_of}
-use Rattle.cn_object.specs.Loops.{ActsSoon, Acts, GoesOn, TaskLoopsAt}
+use Rattle.cn_object.specs.Loops.{ActsSoon, Acts, GoesOn}
 use Rattle.cn_object.specs.Looping.{AreActingSoon}
 
 some_same : {X : Type 0} (x y : X) → Some x ≡ Some y → x ≡ y

@@ -1,19 +1,17 @@
 -- The loops around the places of a version's code, where all loops are sound.
-use Rattle.std.proofs.Common.{◌≡◌, ◌≢◌, ℕ, zero, suc, ◌+◌, ◌-◌, ◌<◌, ◌≤◌, ◌⊎◌, inl, inr, List, [], ◌∷◌, length, refl, sym, ◌∙◌, ap, subst, Bool, true, false, arith}
-use Rattle.std.specs.Prelude.{◌↔◌, pos, Option, Some, None, slice_get, slice_index_or, unwrap_or}
+use Rattle.std.proofs.Common.{◌≡◌, ◌≢◌, ℕ, ◌+◌, ◌<◌, ◌≤◌, inl, inr, length, refl, sym, ◌∙◌, ap, arith}
+use Rattle.std.specs.Prelude.{◌↔◌, pos, Some, None, slice_get}
 use Rattle.std.proofs.lemmas.Option.{slice_get_within}
 use Rattle.cat_machine.specs.declared.instr.Instr.{Instr}
 use Rattle.cat_machine.specs.declared.instr.Instr.TheVariants as i
 use Rattle.cat_machine.specs.CodeValue.{CodeValue}
-use Rattle.cost_bounds.specs.Paths.{is_turn, opened, turn_follows}
-use Rattle.cn_object.specs.Operands.{target_of}
-use Rattle.cn_object.specs.Regions.{version_entries, all_entries, IsEntry, AreEntries, HasTargets, SameRegion, IsRegionEnd, versions_begin, RegionAt}
-use Rattle.cn_object.specs.Loops.{GoesTo, TurnsAt, IsBetween, IsRepeat, CrossesNone, VersionLoopsAt, LoopsAt}
+use Rattle.cn_object.specs.Regions.{IsEntry, AreEntries, HasTargets, versions_begin, RegionAt}
+use Rattle.cn_object.specs.Loops.{GoesTo, TurnsAt, IsBetween, IsRepeat, VersionLoopsAt, LoopsAt}
 use Rattle.cn_object.specs.Looping.{IsInner, InnerIs}
 use Rattle.cn_object.specs.Verified.{Everywhere}
 use Rattle.cn_object.specs.Verdict.{LoopsHold}
 use Rattle.cn_object.proofs.Spanning.{targets_exist, begins_entry}
-use Rattle.cn_object.proofs.Inner.{order, split, turns_same}
+use Rattle.cn_object.proofs.Inner.{order, split}
 use Rattle.cn_object.proofs.Nesting.{Sound, turn_ahead, nests, not_back}
 
 some_same : {X : Type 0} (x y : X) → Some x ≡ Some y → x ≡ y

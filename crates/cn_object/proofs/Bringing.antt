@@ -1,6 +1,6 @@
 -- The depths that places bring to later ones.
-use Rattle.std.proofs.Common.{◌≡◌, ◌≢◌, ℕ, zero, suc, ◌+◌, ◌-◌, ◌<◌, ◌≤◌, ◌⊎◌, inl, inr, List, [], ◌∷◌, length, get_or, refl, sym, ◌∙◌, ap, subst, Bool, true, false, arith}
-use Rattle.std.specs.Prelude.{Option, Some, None, slice_get, slice_set, nat_lt, ◌==◌, if◌then◌else◌, replicate}
+use Rattle.std.proofs.Common.{◌≡◌, ◌≢◌, ℕ, zero, suc, ◌+◌, ◌-◌, ◌<◌, ◌≤◌, ◌⊎◌, inl, inr, List, [], ◌∷◌, length, refl, sym, ◌∙◌, ap, subst, Bool, true, false, arith}
+use Rattle.std.specs.Prelude.{Some, None, slice_get, nat_lt, ◌==◌, if◌then◌else◌, replicate}
 use Rattle.std.proofs.lemmas.Option.{slice_get-get_or, slice_get_within}
 use Rattle.std.proofs.lemmas.List.{get_or-set_same, get_or-set_other, length-set, get_or-replicate}
 use borrow.Author.Tests.{eqb-true, eqb-false, ltb-true, ltb-false, lt-ltb}
@@ -10,8 +10,8 @@ use Rattle.cat_machine.specs.CodeValue.{CodeValue}
 use Rattle.cn_object.specs.declared.depth.Way.{Way}
 use Rattle.cn_object.specs.declared.depth.Brought.{Brought}
 use Rattle.cn_object.specs.declared.depth.Brought.TheVariants.{Nothing, One, Several}
-use Rattle.cn_object.specs.Regions.{IsEntry, all_entries, versions_begin}
-use Rattle.cn_object.specs.Depths.{taken, way, on_way, ways_of, LeadsTo, Brings, Enters, Follows, IsDepth, SuitsDepth, StackIs, StackAt}
+use Rattle.cn_object.specs.Regions.{all_entries, versions_begin}
+use Rattle.cn_object.specs.Depths.{way, on_way, ways_of, LeadsTo, Brings, Enters, Follows, IsDepth, SuitsDepth, StackIs, StackAt}
 use Rattle.cn_object.specs.Passing.{joined, at_place, brought_to, forward_to, with_ways, entered_at, first_brought, SumsTo, BroughtBy, IsSummary, AreDepths, IsFitting}
 
 -- ---- one place

@@ -12,7 +12,7 @@ use Rattle.cn_object.specs.Depths.{way}
 use Rattle.cn_object.specs.Loops.{GoesTo}
 use Rattle.cn_object.specs.Looping.{AreComing, noted}
 use Rattle.cn_object.specs.Passing.{at_place, brought_to, SumsTo}
-use Rattle.cn_object.proofs.Bringing.{Sums, AddWay, Never, all_same, brought_sums, nothing_yet, length-brought, length-nothing}
+use Rattle.cn_object.proofs.Bringing.{AddWay, Never, all_same, brought_sums, nothing_yet, length-brought, length-nothing}
 
 some_same : {X : Type 0} (x y : X) → Some x ≡ Some y → x ≡ y
 some_same x y e = cc

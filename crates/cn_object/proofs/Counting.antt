@@ -1,8 +1,8 @@
 -- The counts of instructions, from the last place to the first.
-use Rattle.std.proofs.Common.{◌≡◌, ◌≢◌, ℕ, zero, suc, ◌+◌, ◌-◌, ◌*◌, ◌<◌, ◌≤◌, ◌⊎◌, inl, inr, List, [], ◌∷◌, length, get_or, refl, sym, ◌∙◌, ap, subst, Bool, true, false, arith, min, max}
-use Rattle.std.specs.Prelude.{pos, Option, Some, None, slice_get, slice_index, slice_set, nat_lt, ◌==◌, if◌then◌else◌}
-use Rattle.std.proofs.lemmas.Option.{slice_get_within, slice_get-get_or}
-use Rattle.std.proofs.lemmas.List.{get_or-set_same, get_or-set_other, length-set, length-append}
+use Rattle.std.proofs.Common.{◌≡◌, ℕ, zero, suc, ◌+◌, ◌*◌, ◌<◌, ◌≤◌, inl, inr, List, [], length, refl, sym, ◌∙◌, ap, subst, Bool, true, false, arith, max}
+use Rattle.std.specs.Prelude.{pos, Some, slice_get, slice_index, slice_set, nat_lt, ◌==◌, if◌then◌else◌}
+use Rattle.std.proofs.lemmas.Option.{slice_get_within}
+use Rattle.std.proofs.lemmas.List.{get_or-set_same, get_or-set_other, length-set}
 use borrow.Author.Tests.{eqb-true, eqb-false, lt-ltb, ltb-true}
 use Rattle.cat_machine.specs.declared.instr.Instr.{Instr}
 use Rattle.cat_machine.specs.declared.instr.Instr.TheVariants as i
@@ -11,13 +11,13 @@ use Rattle.cat_machine.specs.Costs.{instr_cost, place_cost, path_cost}
 use Rattle.cost_bounds.specs.Paths.{HandlerFrom, Ends, LeadsOn}
 use Rattle.cost_bounds.specs.Pass.{is_straight, Worth, AtEnd, TurnsBack, Leaves, Tests, Repeats, GoesOn as Straight}
 use Rattle.cn_object.specs.Operands.{target_of}
-use Rattle.cn_object.specs.Regions.{version_entries, all_entries, IsEntry, AreEntries, versions_begin}
+use Rattle.cn_object.specs.Regions.{version_entries, versions_begin}
 use Rattle.cn_object.specs.Lengths.{HasSoundLoops, each_one, cut_off, LengthIs, AreLengths, repeated, length_of, length_to, IsShort, AreShort, IsFirstLong}
 use Rattle.cn_object.specs.Verified.{Everywhere, ShortAt}
 use Rattle.cn_object.specs.Verdict.{FailsFirst}
-use Rattle.cn_object.proofs.Inner.{order, split}
+use Rattle.cn_object.proofs.Inner.{order}
 use Rattle.cn_object.proofs.Spanning.{version_is_entry, version_entry_in, version_entries_rise}
-use Rattle.cn_object.proofs.Around.{Looped, looped, InVersions, repeat_at, next_in, target_in}
+use Rattle.cn_object.proofs.Around.{looped, InVersions, repeat_at, next_in, target_in}
 use Rattle.cn_object.proofs.Ways.{worth_exists, entry_most, entry_reached}
 
 some_same : {X : Type 0} (x y : X) → Some x ≡ Some y → x ≡ y

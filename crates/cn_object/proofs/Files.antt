@@ -1,11 +1,10 @@
 -- A whole file is read again.
-use Rattle.std.proofs.Common.{◌≡◌, ℕ, zero, suc, ◌+◌, ◌*◌, ◌^◌, ◌<◌, ◌≤◌, ℤ, List, [], ◌∷◌, ◌++◌, length, drop, get_or, refl, sym, ◌∙◌, ap, subst, append-nil, Bool, true, false, arith}
+use Rattle.std.proofs.Common.{◌≡◌, ℕ, ◌*◌, ℤ, List, [], ◌++◌, length, drop, get_or, sym, ◌∙◌, ap, subst, append-nil, Bool, true, false, arith}
 use Rattle.std.specs.Prelude.{◌↔◌, IsTrue, map}
 use Rattle.std.proofs.lemmas.List.{length-map}
 use Rattle.std.proofs.lemmas.Option.{slice_get-get_or}
 use Rattle.cn_object.proofs.Ranges.{read_in_range, read_parts_fit, length-words, length-numbers, length-started, length-versions, length-instrs}
 use Rattle.std.specs.List.{All, flat_map}
-use Rattle.std.specs.Int.{w16, w32}
 use Rattle.std.proofs.lemmas.Nat.{from_le_bytes-to_le_bytes_2, from_le_bytes-to_le_bytes_4}
 use Rattle.std.proofs.Math.Seq.{drop-append_seam}
 use Rattle.cat_machine.specs.declared.instr.Instr.{Instr}

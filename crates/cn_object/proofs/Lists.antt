@@ -1,7 +1,7 @@
 -- Lists that grow piece by piece.
-use Rattle.std.proofs.Common.{◌≡◌, ℕ, zero, suc, ◌+◌, ◌-◌, ◌<◌, ◌≤◌, List, [], ◌∷◌, ◌++◌, length, get_or, drop, refl, sym, ◌∙◌, ap, subst, append_assoc, append-nil, add-one, arith}
+use Rattle.std.proofs.Common.{◌≡◌, ℕ, suc, ◌+◌, ◌-◌, ◌<◌, ◌≤◌, List, [], ◌∷◌, ◌++◌, length, get_or, drop, refl, sym, ◌∙◌, ap, append_assoc, append-nil, add-one, arith}
 use Rattle.std.proofs.Math.Seq.{drop-cons, drop-length}
-use Rattle.std.specs.Prelude.{Vec, Option, Some, None, slice_get, unwrap_or}
+use Rattle.std.specs.Prelude.{Vec, Some, None, slice_get, unwrap_or}
 use Rattle.std.specs.Global.{Global}
 use Rattle.std.specs.List.{flat_map}
 use Rattle.std.proofs.lemmas.Option.{unwrap_or-slice_get, slice_get-get_or}

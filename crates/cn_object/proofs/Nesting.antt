@@ -1,16 +1,15 @@
 -- Sound loops nest: the innermost one tells of all.
-use Rattle.std.proofs.Common.{◌≡◌, ◌≢◌, ℕ, zero, suc, ◌+◌, ◌<◌, ◌≤◌, ◌⊎◌, inl, inr, List, length, refl, sym, ◌∙◌, ap, subst, Bool, true, false, arith}
-use Rattle.std.specs.Prelude.{◌↔◌, Option, Some, None, slice_get, ◌==◌}
+use Rattle.std.proofs.Common.{◌≡◌, ℕ, ◌+◌, ◌<◌, ◌≤◌, inl, inr, refl, sym, ◌∙◌, ap, subst, arith}
+use Rattle.std.specs.Prelude.{Option, Some, None, slice_get}
 use Rattle.std.proofs.lemmas.Option.{slice_get_within}
-use borrow.Author.Tests.{eqb-true, eqb-false}
 use Rattle.cat_machine.specs.declared.instr.Instr.{Instr}
 use Rattle.cat_machine.specs.declared.instr.Instr.TheVariants as i
 use Rattle.cat_machine.specs.CodeValue.{CodeValue}
 use Rattle.cn_object.specs.Operands.{target_of}
 use Rattle.cn_object.specs.Regions.{RegionAt}
 use Rattle.cn_object.specs.Depths.{taken, IsDepth}
-use Rattle.cn_object.specs.Loops.{GoesTo, TurnsAt, IsBetween, IsRepeat, IsBackOf, CrossesNone, VersionLoopsAt, LoopsAt}
-use Rattle.cn_object.specs.Looping.{IsInner, InnerIs, JumpsWell, AllJumpWell, TurnsWell, TakesAbove, TakesAboveAt}
+use Rattle.cn_object.specs.Loops.{GoesTo, TurnsAt, IsBetween, IsBackOf, CrossesNone, VersionLoopsAt, LoopsAt}
+use Rattle.cn_object.specs.Looping.{InnerIs, AllJumpWell, TurnsWell, TakesAboveAt}
 use Rattle.cn_object.specs.Verified.{Everywhere}
 use Rattle.cn_object.proofs.Inner.{order, split, turns_same}
 

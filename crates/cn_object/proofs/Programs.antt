@@ -1,5 +1,5 @@
 -- The code of a program as an object.
-use Rattle.std.proofs.Common.{◌≡◌, ℕ, suc, ◌+◌, ◌≤◌, List, [], ◌∷◌, length, refl, sym, ◌∙◌, ap, subst, arith}
+use Rattle.std.proofs.Common.{◌≡◌, ℕ, suc, ◌+◌, List, [], ◌∷◌, length, refl, sym, ◌∙◌, ap, subst, arith}
 use Rattle.std.specs.Prelude.{map}
 use Rattle.std.specs.List.{All}
 use Rattle.std.proofs.lemmas.List.{length-map}
@@ -7,7 +7,7 @@ use Rattle.cat_program.specs.declared.headers.Event.{Event}
 use Rattle.cat_program.specs.Declares.{EachEventIs}
 use Rattle.cat_program.specs.Body.{Body, tree_of}
 use Rattle.cat_program.specs.Places.{task_size, version_size, versions_size, tasks_size}
-use Rattle.cat_program.specs.Checked.{Checked, IsChecked, bodies_of, versions_of}
+use Rattle.cat_program.specs.Checked.{Checked, IsChecked, bodies_of}
 use Rattle.cat_machine.specs.Code.{code_of, tasks_entries, versions_entries, events_entries}
 use Rattle.cat_machine.specs.CodeValue.{CodeValue}
 use Rattle.cn_object.specs.Spelling.{HasVersions}

@@ -1,18 +1,17 @@
 -- What is read has room, where each byte is one.
-use Rattle.std.proofs.Common.{◌≡◌, ℕ, zero, suc, ◌+◌, ◌*◌, ◌%◌, ◌^◌, ◌<◌, ◌≤◌, ℤ, List, [], ◌∷◌, length, get_or, drop, refl, sym, ◌∙◌, ap, subst, Bool, true, false, add-one, arith}
+use Rattle.std.proofs.Common.{◌≡◌, ℕ, zero, suc, ◌+◌, ◌*◌, ◌%◌, ◌^◌, ◌<◌, List, [], ◌∷◌, length, drop, refl, ap, Bool, true, false, arith}
 use Rattle.std.specs.Prelude.{FitsSigned, min, slice_index, nat_lt, ◌==◌, if◌then◌else◌}
 use Rattle.std.specs.Prelude.{Vec}
 use Rattle.std.specs.Global.{Global}
 use Rattle.cat_machine.specs.CodeValue.{entries_of}
 use Rattle.std.specs.List.{All}
-use Rattle.std.specs.Int.{w16, w32, cast_signed}
+use Rattle.std.specs.Int.{w32}
 use Rattle.std.proofs.lemmas.List.{get_or-drop}
 use mir.ValLaws as laws
 use Rattle.cat_machine.specs.declared.instr.Instr.{Instr}
-use Rattle.cat_machine.specs.declared.instr.Instr.TheVariants as i
 use Rattle.cn_object.specs.declared.parts.Parts.{Parts}
-use Rattle.cn_object.specs.Spelling.{IsPlace, HasRoom, IsInRange, IsSmall, PartsFit, cut, names_word, parts}
-use Rattle.cn_object.specs.Reading.{short_of, number_of, read_numbers, read_words, read_started, read_event, after_event, read_versions, after_versions, first_in, other_in, parts_in, instr_in, read_instrs, read_parts, words_in, tasks_in, events_in, count_in, after_words, after_tasks, after_events, after_head, read_object, AreBytes}
+use Rattle.cn_object.specs.Spelling.{IsPlace, HasRoom, IsInRange, PartsFit, cut, names_word, parts}
+use Rattle.cn_object.specs.Reading.{short_of, number_of, read_numbers, read_words, read_started, after_event, read_versions, after_versions, first_in, other_in, parts_in, instr_in, read_instrs, read_parts, words_in, tasks_in, events_in, count_in, after_words, after_tasks, after_events, after_head, read_object, AreBytes}
 
 pub bytes_after : (n : ℕ) (bytes : List ℕ) → AreBytes bytes → AreBytes (drop n bytes)
 bytes_after n bytes h = record { each = λ k. let e = get_or-drop n bytes k 0 in omega (arith, h.each (n + k), e) }

@@ -1,8 +1,8 @@
 -- What is spelled is read again.
-use Rattle.std.proofs.Common.{◌≡◌, ℕ, zero, suc, ◌+◌, ◌*◌, ◌%◌, ◌^◌, ◌<◌, ◌≤◌, ℤ, List, [], ◌∷◌, ◌++◌, length, get_or, drop, refl, sym, ◌∙◌, ap, subst, append_assoc, add-one, arith}
-use Rattle.std.specs.Prelude.{FitsSigned, Bool, true, false, map, min, ◌==◌, ◌||◌, if◌then◌else◌}
+use Rattle.std.proofs.Common.{◌≡◌, ℕ, zero, suc, ◌+◌, ◌*◌, ◌%◌, ◌^◌, ◌<◌, ◌≤◌, ℤ, List, [], ◌∷◌, ◌++◌, length, drop, refl, sym, ◌∙◌, ap, append_assoc, arith}
+use Rattle.std.specs.Prelude.{FitsSigned, Bool, true, false, map, min, if◌then◌else◌}
 use Rattle.std.specs.List.{All, flat_map}
-use Rattle.std.specs.Int.{w16, w32, to_le_bytes, cast_signed, cast_unsigned}
+use Rattle.std.specs.Int.{w32, to_le_bytes, cast_signed, cast_unsigned}
 use Rattle.std.proofs.lemmas.Nat.{from_le_bytes-to_le_bytes_2, from_le_bytes-to_le_bytes_4}
 use Rattle.std.proofs.lemmas.Int.{to_z-of_z}
 use Rattle.std.proofs.Math.Seq.{drop-append_seam}
@@ -14,10 +14,9 @@ use Rattle.cat_program.specs.declared.syntax.Sign.TheVariants as s
 use Rattle.cat_machine.specs.declared.instr.Instr.{Instr}
 use Rattle.cat_machine.specs.declared.instr.Instr.TheVariants as i
 use Rattle.cn_object.specs.declared.parts.Parts.{Parts}
-use Rattle.cn_object.specs.declared.object.Object.{Object}
-use Rattle.cn_object.specs.Spelling.{parts, parts_of, parts_bytes, instr_bytes, word_bytes, task_bytes, tasks_bytes, event_bytes, spelling, IsPlace, HasRoom, IsSmall, IsInRange, operator_number, sign_number, names_word, cut, PartsFit}
+use Rattle.cn_object.specs.Spelling.{parts, parts_of, parts_bytes, instr_bytes, word_bytes, tasks_bytes, event_bytes, IsPlace, HasRoom, operator_number, sign_number, names_word, cut, PartsFit}
 use Rattle.cn_object.specs.Operands.{HasOperands}
-use Rattle.cn_object.specs.Reading.{short_of, number_of, read_numbers, read_words, read_started, read_event, after_event, read_versions, after_versions, parts_in, instr_in, read_instrs, read_parts, AreWhole, words_in, count_in, after_words, after_tasks, after_events, after_head, read_object, HasFewParts}
+use Rattle.cn_object.specs.Reading.{number_of, read_numbers, read_words, read_started, read_event, after_event, read_versions, after_versions, parts_in, instr_in, read_instrs, read_parts, AreWhole}
 
 -- ---- elements
 

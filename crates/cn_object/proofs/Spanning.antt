@@ -1,9 +1,9 @@
 -- Regions, one after another.
-use Rattle.std.proofs.Common.{◌≡◌, ◌≢◌, ℕ, zero, suc, ◌+◌, ◌-◌, ◌<◌, ◌≤◌, ◌⊎◌, inl, inr, List, [], ◌∷◌, ◌++◌, length, get_or, refl, sym, ◌∙◌, ap, subst, Bool, true, false, not, add-one, arith}
+use Rattle.std.proofs.Common.{◌≡◌, ℕ, zero, suc, ◌+◌, ◌-◌, ◌<◌, ◌≤◌, ◌⊎◌, inl, inr, List, [], length, refl, sym, ◌∙◌, ap, subst, Bool, true, false, not, arith}
 use Rattle.std.specs.Prelude.{◌↔◌, Option, Some, None, slice_get, slice_index, slice_index_or, unwrap_or, nat_lt, ◌==◌, if◌then◌else◌}
 use Rattle.std.proofs.lemmas.Option.{slice_get-get_or, slice_get_within, slice_get_past, get_or_from_slice_get, unwrap_or-slice_get}
 use Rattle.std.proofs.lemmas.List.{get_or_append_left, get_or-append-add, length-append, nil_from_length}
-use borrow.Author.Tests.{eqb-true, eqb-false, eq-eqb, ltb-true, ltb-false, not-true}
+use borrow.Author.Tests.{eqb-true, eq-eqb, ltb-true, ltb-false, not-true}
 use Rattle.cat_machine.specs.declared.instr.Instr.{Instr}
 use Rattle.cat_machine.specs.declared.instr.Instr.TheVariants as i
 use Rattle.cat_machine.specs.CodeValue.{CodeValue}
@@ -11,7 +11,7 @@ use Rattle.cn_object.specs.declared.regions.Span.{Span}
 use Rattle.cn_object.specs.Operands.{target_of, HasOperands, OperandsAt}
 use Rattle.cn_object.specs.Verified.{Everywhere}
 use Rattle.cn_object.specs.Verdict.{BreaksRegion}
-use Rattle.cn_object.specs.Regions.{version_entries, all_entries, IsEntry, AreEntriesOf, AscendBelow, AreEntries, HasTargets, SameRegion, IsRegionEnd, versions_begin, StaysIn, SuitsRegion, RegionAt, IsSpan, begun, entered_in, HasBegin, HasEnd, StaysWithin, IsAllowed, SuitsSpan, SuitsSpanAt}
+use Rattle.cn_object.specs.Regions.{version_entries, all_entries, IsEntry, AreEntriesOf, AscendBelow, AreEntries, HasTargets, SameRegion, IsRegionEnd, versions_begin, SuitsRegion, RegionAt, IsSpan, begun, entered_in, StaysWithin, SuitsSpan, SuitsSpanAt}
 
 some_same : {X : Type 0} (x y : X) → Some x ≡ Some y → x ≡ y
 some_same x y e = cc

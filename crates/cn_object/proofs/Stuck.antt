@@ -1,24 +1,24 @@
 -- Verified code is never stuck.
-use Rattle.std.proofs.Common.{◌≡◌, ◌≢◌, ℕ, zero, suc, ◌+◌, ◌-◌, ◌<◌, ◌≤◌, ◌⊎◌, inl, inr, ℤ, List, [], ◌∷◌, length, get_or, refl, sym, ◌∙◌, ap, subst, Bool, true, false, arith}
-use Rattle.std.specs.Prelude.{◌&&◌, Option, Some, None, slice_get, slice_index, nat_lt, nat_le, if◌then◌else◌}
-use Rattle.std.proofs.lemmas.Option.{slice_get-get_or, slice_get_within, get_or_from_slice_get}
+use Rattle.std.proofs.Common.{◌≡◌, ◌≢◌, ℕ, ◌+◌, ◌-◌, ◌<◌, ◌≤◌, ◌⊎◌, inl, inr, ℤ, List, [], ◌∷◌, length, get_or, refl, sym, ◌∙◌, ap, subst, Bool, true, false, arith}
+use Rattle.std.specs.Prelude.{◌&&◌, Option, Some, None, slice_get, nat_lt, nat_le}
+use Rattle.std.proofs.lemmas.Option.{slice_get-get_or, slice_get_within}
 use borrow.Author.Tests.{lt-ltb, le-leb, ltb-true, ltb-false}
 use Rattle.cat_program.specs.Meaning.{first_posted}
-use Rattle.cat_program.specs.Value.{operator_value, signed_value, index_of, word_at, is_nought}
+use Rattle.cat_program.specs.Value.{word_at}
 use Rattle.cat_machine.specs.declared.instr.Instr.{Instr}
 use Rattle.cat_machine.specs.declared.instr.Instr.TheVariants as i
 use Rattle.cat_machine.specs.declared.instr.Mode.{Mode}
 use Rattle.cat_machine.specs.declared.instr.Mode.TheVariants.{Task, Handler}
 use Rattle.cat_machine.specs.CodeValue.{CodeValue}
 use Rattle.cat_machine.specs.Held.{Held}
-use Rattle.cat_machine.specs.Machine.{Stepping, act, step_of, next_of, entry_of, place_or, step_at, fetched, if_so, on_top, on_two, pushed, ended, went}
+use Rattle.cat_machine.specs.Machine.{Stepping, act, step_of, next_of, entry_of, place_or, step_at, fetched, if_so, on_top, on_two, pushed, ended}
 use Rattle.cat_machine.specs.Fits.{ReadyFor}
-use Rattle.cn_object.specs.Operands.{OperandsAt, HasOperands}
-use Rattle.cn_object.specs.Regions.{all_entries, IsEntry, AreEntries, SuitsRegion, RegionAt, versions_begin}
-use Rattle.cn_object.specs.Depths.{taken, given, ways_of, way, Brings, Enters, Follows, LeadsTo, IsDepth, SuitsDepth, StackIs, StackAt}
+use Rattle.cn_object.specs.Operands.{HasOperands}
+use Rattle.cn_object.specs.Regions.{all_entries, versions_begin}
+use Rattle.cn_object.specs.Depths.{taken, given, ways_of, way, Follows, LeadsTo, IsDepth}
 use Rattle.cn_object.specs.Verified.{IsVerified}
 use Rattle.cn_object.proofs.Spanning.{tasks_first}
-use Rattle.cn_object.specs.Fitting.{StandsAt, IsTaskPlace, StandsIn, Idle, InTask, InVersion, FitsCode}
+use Rattle.cn_object.specs.Fitting.{StandsAt, StandsIn, Idle, InTask, InVersion, FitsCode}
 
 abbrev Goes : Option Stepping → Type 0
 Goes o = (s : Stepping) × (o ≡ Some s)

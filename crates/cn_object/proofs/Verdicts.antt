@@ -1,14 +1,13 @@
 -- Bytes have one verdict.
-use Rattle.std.proofs.Common.{◌≡◌, ℕ, zero, ◌<◌, List, length, refl, sym, ◌∙◌, subst, ap, arith, inl, inr}
-use Rattle.std.specs.Prelude.{◌⊎◌}
+use Rattle.std.proofs.Common.{◌≡◌, ℕ, zero, List, length, refl, sym, ◌∙◌, subst, arith, inl, inr}
 use Rattle.std.proofs.lemmas.Bool.{cases_lt}
 use Rattle.cat_machine.specs.CodeValue.{CodeValue}
 use Rattle.cn_object.specs.declared.object.Object.{Object}
 use Rattle.cn_object.specs.declared.object.Kind.{Kind}
 use Rattle.cn_object.specs.declared.object.Kind.TheVariants.{Form, Operand, Region, Stack, Loop, Long}
 use Rattle.cn_object.specs.Spelling.{IsReadAs}
-use Rattle.cn_object.specs.Verified.{IsVerified, Everywhere}
-use Rattle.cn_object.specs.Verdict.{FailsFirst, BreaksRegion, CodeBreaks, RegionsHold, IsBad, NoFile, Broken, IsGood, IsVerifiedObject}
+use Rattle.cn_object.specs.Verified.{IsVerified}
+use Rattle.cn_object.specs.Verdict.{FailsFirst, BreaksRegion, CodeBreaks, RegionsHold, IsBad, NoFile, Broken, IsGood}
 use Rattle.cn_object.proofs.Files.{as_is_read, file_is_as}
 
 -- a rule fails first at one place

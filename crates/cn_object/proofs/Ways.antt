@@ -1,6 +1,6 @@
 -- The greatest sum over a handler's paths, in code whose loops are sound.
-use Rattle.std.proofs.Common.{◌≡◌, ◌≢◌, ℕ, zero, suc, ◌+◌, ◌-◌, ◌*◌, ◌<◌, ◌≤◌, ◌⊎◌, inl, inr, List, [], ◌∷◌, length, get_or, refl, sym, ◌∙◌, ap, subst, Bool, true, false, arith}
-use Rattle.std.specs.Prelude.{max, pos, Option, Some, None, slice_get, nat_le, if◌then◌else◌}
+use Rattle.std.proofs.Common.{◌≡◌, ◌≢◌, ℕ, zero, suc, ◌+◌, ◌-◌, ◌*◌, ◌<◌, ◌≤◌, inl, inr, List, [], ◌∷◌, length, get_or, refl, sym, ◌∙◌, ap, subst, Bool, true, false, arith}
+use Rattle.std.specs.Prelude.{max, pos, Option, Some, None, slice_get}
 use Rattle.std.proofs.lemmas.Option.{slice_get-get_or, slice_get_within}
 use Rattle.cat_program.specs.declared.syntax.Class.TheVariants.{Basic}
 use Rattle.cat_machine.specs.declared.instr.Instr.{Instr}
@@ -10,7 +10,6 @@ use Rattle.cat_machine.specs.CodeValue.{CodeValue}
 use Rattle.cat_machine.specs.Costs.{Costs, instr_cost, place_cost, path_cost}
 use Rattle.cost_bounds.specs.Paths.{is_turn, opened, LeadsTo, turn_follows, HandlerFrom, Ends, LeadsOn}
 use Rattle.cost_bounds.specs.Pass.{is_straight, Worth, AtEnd, TurnsBack, Leaves, Tests, Repeats, GoesOn as Straight}
-use Rattle.cn_object.specs.Operands.{target_of}
 use Rattle.cn_object.specs.Regions.{IsEntry}
 use Rattle.cn_object.specs.Loops.{GoesTo, TurnsAt}
 use Rattle.cn_object.specs.Looping.{IsInner, InnerIs}

@@ -1,5 +1,5 @@
 -- The words, tasks and places that instructions name exist.
-use Rattle.std.specs.Prelude.{◌≡◌, ℕ, ◌+◌, ◌<◌, ◌≤◌, List, length, Option, Some, None, slice_get}
+use Rattle.std.specs.Prelude.{◌≡◌, ℕ, ◌+◌, ◌<◌, ◌≤◌, length, Option, Some, None, slice_get}
 use Rattle.cat_machine.specs.declared.instr.Instr.{Instr}
 use Rattle.cat_machine.specs.declared.instr.Instr.TheVariants as i
 use Rattle.cat_machine.specs.CodeValue.{CodeValue}

@@ -1,5 +1,5 @@
 -- What a pass over code knows of depths.
-use Rattle.std.specs.Prelude.{◌≡◌, ◌≢◌, ℕ, zero, ◌+◌, ◌-◌, ◌<◌, ◌≤◌, ◌⊎◌, nat_lt, ◌==◌, if◌then◌else◌, true, List, [], ◌∷◌, length, Some, slice_get, slice_set, slice_index_or, replicate}
+use Rattle.std.specs.Prelude.{◌≡◌, ◌≢◌, ℕ, ◌-◌, ◌<◌, ◌≤◌, ◌⊎◌, nat_lt, ◌==◌, if◌then◌else◌, true, List, [], ◌∷◌, length, Some, slice_get, slice_set, slice_index_or, replicate}
 use Rattle.cat_machine.specs.declared.instr.Instr.{Instr}
 use Rattle.cat_machine.specs.declared.instr.Instr.TheVariants as i
 use Rattle.cat_machine.specs.CodeValue.{CodeValue}

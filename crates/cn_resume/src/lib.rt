@@ -3,7 +3,6 @@
 
 mod saving;
 
-
 pub use saving::write_saved;
 
 #[cfg(test)]

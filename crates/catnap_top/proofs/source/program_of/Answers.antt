@@ -1,4 +1,4 @@
-use Rattle.std.proofs.Common.{◌≡◌, ◌≤◌, ◌∙◌, sym, ap, arith, subst, length, refl}
+use Rattle.std.proofs.Common.{◌≤◌, ◌∙◌, sym, ap, arith, subst, length, refl}
 use Rattle.std.specs.Prelude.{None}
 use Rattle.cat_tokens.specs.Lexemes.{lexemes}
 use Rattle.cat_tokens.specs.Lexes.{Lexes}

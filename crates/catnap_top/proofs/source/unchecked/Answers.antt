@@ -1,5 +1,4 @@
 use Rattle.std.proofs.Common.{◌≡◌, ◌∙◌, sym, ap, subst}
-use Rattle.std.specs.Prelude.{get_or}
 use Rattle.cat_places.specs.Starts.{first_tokens}
 use Rattle.catnap_top.specs.Source.{stop_of}
 use Rattle.catnap_top.specs.Files.{program_in}

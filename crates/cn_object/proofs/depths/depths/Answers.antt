@@ -1,4 +1,4 @@
-use Rattle.std.proofs.Common.{◌≡◌, ◌∙◌}
+use Rattle.std.proofs.Common.{◌∙◌}
 use Rattle.cn_object.proofs.Bringing.{summary_begins}
 use Rattle.cn_object.proofs.depths.depths.Goals as goal
 

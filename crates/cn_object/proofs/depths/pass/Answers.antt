@@ -1,7 +1,6 @@
-use Rattle.std.proofs.Common.{◌≡◌, ℕ, ◌<◌, ◌≤◌, ◌+◌, length, sym, ◌∙◌, ap, below_more, arith}
-use Rattle.cn_object.specs.declared.depth.Brought.TheVariants.{One}
+use Rattle.std.proofs.Common.{◌≡◌, ◌<◌, length, below_more, arith}
 use Rattle.cn_object.specs.Depths.{StackAt, StackIs}
-use Rattle.cn_object.proofs.Bringing.{stack_is_one, fitting_of, stack_of, summary_goes, summary_depth, depths_at_end}
+use Rattle.cn_object.proofs.Bringing.{stack_is_one, fitting_of, stack_of, summary_goes, depths_at_end}
 use Rattle.cn_object.proofs.Files.{few_by, elim_false}
 use Rattle.cn_object.proofs.depths.pass.Goals as goal
 

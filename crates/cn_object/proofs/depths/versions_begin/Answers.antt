@@ -1,4 +1,4 @@
-use Rattle.std.proofs.Common.{List, ℕ, ◌<◌, length, sym, ◌∙◌, arith}
+use Rattle.std.proofs.Common.{◌<◌, length, sym, ◌∙◌, arith}
 use Rattle.cn_object.proofs.Lists.{begin_found, begin_not, version_at_any}
 use Rattle.cn_object.proofs.depths.versions_begin.Goals as goal
 

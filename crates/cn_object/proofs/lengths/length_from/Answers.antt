@@ -1,4 +1,4 @@
-use Rattle.std.proofs.Common.{◌≡◌, ◌∙◌, sym, ap, subst}
+use Rattle.std.proofs.Common.{◌∙◌, ap}
 use Rattle.cn_object.specs.Lengths.{cut_off, length_to}
 use Rattle.cn_object.proofs.Counting.{length_is}
 use Rattle.cn_object.proofs.lengths.length_from.Goals as goal

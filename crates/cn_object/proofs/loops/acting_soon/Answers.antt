@@ -1,6 +1,6 @@
-use Rattle.std.proofs.Common.{◌≡◌, ◌≤◌, ◌<◌, ◌+◌, ◌-◌, length, refl, ap, sym, ◌∙◌, subst, false, arith}
+use Rattle.std.proofs.Common.{◌≡◌, ◌<◌, ◌+◌, ◌-◌, length, refl, ap, ◌∙◌, subst, false, arith}
 use Rattle.std.specs.Prelude.{slice_index_or, slice_set}
-use Rattle.cn_object.proofs.Acting.{SoonFrom, soon_at, soon_goes, soon_starts, soon_ends}
+use Rattle.cn_object.proofs.Acting.{SoonFrom, soon_at, soon_goes}
 use Rattle.cn_object.proofs.loops.acting_soon.Goals as goal
 
 pub acts_soon_at-value-requires-clause-later : goal.acts_soon_at-value-requires-clause-later

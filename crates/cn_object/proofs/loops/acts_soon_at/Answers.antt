@@ -1,4 +1,4 @@
-use Rattle.std.proofs.Common.{◌≡◌, refl, sym, ◌∙◌, true, false}
+use Rattle.std.proofs.Common.{refl, sym, ◌∙◌}
 use Rattle.cn_object.specs.Loops.{GoesOn}
 use Rattle.cn_object.proofs.Acting.{soon_acts, soon_later}
 use Rattle.cn_object.proofs.loops.acts_soon_at.Goals as goal

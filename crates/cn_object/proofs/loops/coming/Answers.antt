@@ -1,7 +1,5 @@
-use Rattle.std.proofs.Common.{◌≡◌, ◌+◌, sym, ◌∙◌, ap, subst, arith}
-use Rattle.cn_object.specs.Looping.{noted}
-use Rattle.cn_object.specs.Passing.{brought_to}
-use Rattle.cn_object.proofs.Coming.{IsComing, coming_starts, coming_goes, coming_noted, coming_ends}
+use Rattle.std.proofs.Common.{arith}
+use Rattle.cn_object.proofs.Coming.{coming_starts, coming_noted, coming_ends}
 use Rattle.cn_object.proofs.loops.coming.Goals as goal
 
 pub loop-pc-init : goal.loop-pc-init

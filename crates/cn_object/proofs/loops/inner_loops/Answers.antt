@@ -1,4 +1,4 @@
-use Rattle.std.proofs.Common.{◌≡◌, ◌++◌, List, [], ◌∷◌, subst, sym}
+use Rattle.std.proofs.Common.{subst, sym}
 use Rattle.cn_object.specs.Looping.{IsLatest}
 use Rattle.cn_object.proofs.Inner.{inner_more, latest_next}
 use Rattle.cn_object.proofs.loops.inner_loops.Goals as goal

@@ -1,4 +1,3 @@
-use Rattle.std.proofs.Common.{◌≤◌, length}
 use Rattle.cn_object.specs.Looping.{AreInner, IsLatest}
 use Rattle.cn_object.proofs.loops.inner_loops.Given as goal
 

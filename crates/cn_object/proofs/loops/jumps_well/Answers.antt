@@ -1,4 +1,4 @@
-use Rattle.std.proofs.Common.{◌≡◌, length, subst, sym, arith}
+use Rattle.std.proofs.Common.{subst, sym, arith}
 use Rattle.cn_object.specs.Looping.{InnerIs}
 use Rattle.cn_object.proofs.Nesting.{sound_before, back_turn, same_crosses, crosses_same}
 use Rattle.cn_object.proofs.loops.jumps_well.Goals as goal

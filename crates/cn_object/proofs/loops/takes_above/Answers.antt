@@ -1,9 +1,8 @@
-use Rattle.std.proofs.Common.{◌≡◌, ◌+◌, ◌≤◌, length, subst, sym, ◌∙◌, arith}
+use Rattle.std.proofs.Common.{◌≡◌, ◌+◌, subst, sym, ◌∙◌, arith}
 use Rattle.std.specs.Prelude.{Some}
 use borrow.Author.Tests.{leb-true, le-leb}
-use Rattle.cn_object.specs.Depths.{IsDepth}
 use Rattle.cn_object.specs.Looping.{InnerIs}
-use Rattle.cn_object.proofs.Nesting.{sound_before, takes_none, takes_some, takes_back}
+use Rattle.cn_object.proofs.Nesting.{sound_before, takes_some, takes_back}
 use Rattle.cn_object.proofs.loops.takes_above.Goals as goal
 
 pub returns : goal.returns

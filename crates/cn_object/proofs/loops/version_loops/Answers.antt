@@ -1,6 +1,6 @@
 use Rattle.std.proofs.Common.{◌≡◌, false, true}
 use Rattle.cn_object.proofs.Files.{few_by, elim_false}
-use Rattle.cn_object.proofs.Nesting.{version_by, version_jumps, version_turns, version_takes}
+use Rattle.cn_object.proofs.Nesting.{version_by, version_jumps, version_takes}
 use Rattle.cn_object.proofs.loops.version_loops.Goals as goal
 
 pub returns-then-not-all_jump_well : goal.returns-then-not-all_jump_well

@@ -1,7 +1,7 @@
 use Rattle.std.proofs.Common.{refl, drop}
 use Rattle.cn_object.specs.Spelling.{cut}
 use Rattle.cn_object.specs.Reading.{instr_in, parts_in, read_instrs}
-use Rattle.cn_object.proofs.Lists.{reads_on, reads_end}
+use Rattle.cn_object.proofs.Lists.{reads_on}
 use Rattle.cn_object.proofs.reading.instrs.Goals as goal
 
 pub items-preserved : goal.items-preserved

@@ -1,4 +1,4 @@
-use Rattle.std.proofs.Common.{◌≡◌, length, ap, sym, ◌∙◌, true, arith}
+use Rattle.std.proofs.Common.{length, ap, sym, ◌∙◌, arith}
 use Rattle.std.specs.List.{flat_map}
 use lib.Pointwise.{bytes_decides}
 use Rattle.cn_object.specs.Spelling.{parts_bytes}

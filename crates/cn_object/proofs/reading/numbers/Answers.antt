@@ -1,6 +1,6 @@
 use Rattle.std.proofs.Common.{refl, drop}
 use Rattle.cn_object.specs.Reading.{number_of, read_numbers}
-use Rattle.cn_object.proofs.Lists.{reads_on, reads_end}
+use Rattle.cn_object.proofs.Lists.{reads_on}
 use Rattle.cn_object.proofs.reading.numbers.Goals as goal
 
 pub items-preserved : goal.items-preserved

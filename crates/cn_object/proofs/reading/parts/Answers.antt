@@ -1,4 +1,4 @@
-use Rattle.std.proofs.Common.{◌≡◌, length, ap, sym, ◌∙◌, arith}
+use Rattle.std.proofs.Common.{length, ap, arith}
 use Rattle.cn_object.proofs.Ranges.{length-numbers, length-instrs, length-versions, entries_counted}
 use Rattle.cn_object.proofs.reading.parts.Goals as goal
 

@@ -1,7 +1,7 @@
-use Rattle.std.proofs.Common.{◌≡◌, ◌≤◌, length, ap, sym, ◌∙◌, subst, drop, Bool, true, false, arith}
+use Rattle.std.proofs.Common.{◌≡◌, length, ap, sym, ◌∙◌, subst, drop, arith}
 use Rattle.std.specs.List.{All}
 use Rattle.cn_object.specs.declared.object.Object.{Object}
-use Rattle.cn_object.specs.Reading.{read_object, read_parts, words_in, tasks_in, count_in, after_head, after_words, AreWhole, HasFewParts}
+use Rattle.cn_object.specs.Reading.{read_parts, words_in, tasks_in, count_in, after_head, after_words, AreWhole, HasFewParts}
 use Rattle.cn_object.specs.Spelling.{HasVersions}
 use Rattle.cn_object.proofs.Files.{as_has_few, as_is_read, as_whole, as_again, read_is_as, few_by, elim_false}
 use Rattle.cn_object.proofs.Ranges.{length-words, length-started, length-numbers}

@@ -1,6 +1,6 @@
 use Rattle.std.proofs.Common.{refl, drop}
 use Rattle.cn_object.specs.Reading.{short_of, read_started}
-use Rattle.cn_object.proofs.Lists.{reads_on, reads_end}
+use Rattle.cn_object.proofs.Lists.{reads_on}
 use Rattle.cn_object.proofs.reading.started.Goals as goal
 
 pub items-preserved : goal.items-preserved

@@ -1,4 +1,4 @@
-use Rattle.std.proofs.Common.{refl, ap, ◌∙◌, ◌++◌, ◌∷◌, []}
+use Rattle.std.proofs.Common.{refl}
 use Rattle.cat_machine.specs.CodeValue.{entries_of}
 use Rattle.cn_object.specs.Reading.{read_event, after_event, read_versions}
 use Rattle.cn_object.proofs.Lists.{reads_on, entries_pushed}

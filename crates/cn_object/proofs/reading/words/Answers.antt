@@ -2,7 +2,7 @@ use Rattle.std.proofs.Common.{refl, drop, ◌∙◌}
 use Rattle.std.specs.Int.{w32, cast_signed}
 use Rattle.cn_object.specs.Reading.{number_of, read_words}
 use Rattle.std.proofs.lemmas.Int.{to_z-of_z}
-use Rattle.cn_object.proofs.Lists.{reads_on, reads_end}
+use Rattle.cn_object.proofs.Lists.{reads_on}
 use Rattle.cn_object.proofs.reading.words.Goals as goal
 
 pub items-preserved : goal.items-preserved

@@ -1,6 +1,6 @@
-use Rattle.std.proofs.Common.{◌≡◌, ℕ, ◌<◌, ◌≤◌, length, sym, ◌∙◌, ap, subst, arith}
+use Rattle.std.proofs.Common.{◌≡◌, ◌≤◌, length, sym, ◌∙◌, ap, subst, arith}
 use Rattle.cn_object.specs.Regions.{all_entries, AreEntriesOf}
-use Rattle.cn_object.proofs.Files.{few_by, elim_false}
+use Rattle.cn_object.proofs.Files.{few_by}
 use Rattle.cn_object.proofs.Spanning.{span_is, begins_below, end_within, regions_begin, regions_go, regions_break, regions_end}
 use Rattle.cn_object.proofs.regions.region_fault.Goals as goal
 

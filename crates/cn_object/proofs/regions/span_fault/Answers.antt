@@ -1,4 +1,4 @@
-use Rattle.std.proofs.Common.{◌≡◌, arith}
+use Rattle.std.proofs.Common.{arith}
 use Rattle.cn_object.proofs.Files.{few_by, elim_false}
 use Rattle.cn_object.proofs.Spanning.{suits_at, span_more}
 use Rattle.cn_object.proofs.regions.span_fault.Goals as goal

@@ -1,4 +1,4 @@
-use Rattle.std.proofs.Common.{◌≡◌, ℕ, List, length, subst, sym, ap}
+use Rattle.std.proofs.Common.{length, subst}
 use Rattle.std.specs.Prelude.{MatchOption}
 use Rattle.cn_object.specs.declared.object.Object.{Object}
 use Rattle.cn_object.specs.Spelling.{IsReadAs}

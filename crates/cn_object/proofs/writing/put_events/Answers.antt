@@ -1,5 +1,4 @@
-use Rattle.std.proofs.Common.{◌<◌, ◌≤◌, length, get_or, [], arith, sym, ap, ◌∙◌}
-use Rattle.std.proofs.lemmas.Option.{unwrap_or-slice_get}
+use Rattle.std.proofs.Common.{◌<◌, length, [], arith, ap}
 use Rattle.cn_object.specs.Spelling.{event_bytes}
 use Rattle.cn_object.proofs.Lists.{flat_goes, version_at_place, version_at_any}
 use Rattle.cn_object.proofs.writing.put_events.Goals as goal

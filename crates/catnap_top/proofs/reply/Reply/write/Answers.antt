@@ -1,4 +1,4 @@
-use Rattle.std.proofs.Common.{◌≡◌, ℕ, List, sym, subst}
+use Rattle.std.proofs.Common.{sym, subst}
 use Rattle.cn_base.specs.Writing.{Writes}
 use Rattle.catnap_top.specs.declared.reply.Reply.{Reply}
 use Rattle.catnap_top.specs.Reply.{reply_answer}
