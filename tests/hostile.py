@@ -86,8 +86,8 @@ for name, example in (("device", "node.toml"), ("trace", "node-trace.csv"), ("ar
     with open(os.path.join(TOP, "examples", example), "rb") as file:
         FILES[name] = file.read()
 FILES["link"] = b"step,n\ngrow,4\nsend,0\nsend,0\ndata,1\ndata,0\ndata,0\nack,1\nrestart,0\nack,0\nsend,0\ndata,1\n"
-FORMS = [["run", "source", "100"], ["list", "source"], ["object", "source"], ["check", "source", "device"], ["plan", "source", "device"]]
-FORMS += [generate.REPLAY, ["image", *generate.REPLAY[1:]], ["uplink", *generate.REPLAY[1:], "link"]]
+FORMS = [["run", "source", "100"], ["list", "source"], ["check", "source", "device"], generate.REPLAY]
+FORMS += [["object", "source"], ["plan", "source", "device"], ["image", *generate.REPLAY[1:]], ["uplink", *generate.REPLAY[1:], "link"]]
 
 
 def places(words):
@@ -360,6 +360,7 @@ LONG = {
     "trace": (7, b"fault trace 0 Long\n"),
     "arrivals": (8, b"fault arrivals 0 Long\n"),
     "failures": (9, b"fault fails 0 Long\n"),
+    "link": (17, b"fault link 0 Long\n"),
 }
 FILLERS = [b"x", b"\n", b'"', b"\0", b"{", b"[", b"(", b",", b" ", b"1", b"-", b"\xff", b"#", b"\r", b"a=1\n", b"[a]\n", b"1,0,0,0\n", b"\n\n1,2,3,4"]
 

@@ -1,6 +1,6 @@
 use super::*;
-use cat_machine::{Code, Instr};
-use std::alloc::{AllocError, Global};
+use cat_machine::Instr;
+use std::alloc::Global;
 use std::test::Fail;
 
 // `int x = 0; task t { x = x + 1; out 1, x; } start t;`, with a byte changed or all as they are.
@@ -65,102 +65,53 @@ fn a_word_beyond_all_words_is_no_fault_of_form(rt: HostRuntime) -> Result<(), Fa
     Ok(())
 }
 
-fn file(
-    alloc: Global,
-    instrs: Vec<Instr>,
-    tasks: Vec<u32>,
-    versions: Vec<Vec<u32>>,
-) -> Result<Vec<u8>, AllocError> {
-    let started: &[u16] = if tasks.len() == 1 { &[1] } else { &[] };
-    let code = Code::of(instrs, tasks, versions);
-    writing::spelled(alloc, &code, &[0, 0], started)
-}
-
-// `task t { while true { } } start t;` with another place to jump to.
-fn endless(alloc: Global, to: u32) -> Result<Vec<u8>, AllocError> {
-    let instrs = vec![in alloc;
-        Instr::Begin(0),
-        Instr::Push(1),
-        Instr::JumpZero(4),
-        Instr::Jump(to),
-        Instr::End,
-    ]?;
-    file(alloc, instrs, vec![in alloc; 0]?, Vec::new(alloc))
-}
+// `task t { while true { } } start t;`, with no word; its jump back is instruction 3.
+const ENDLESS: [u8; 60] = [
+    0x43, 0x4e, 0x4f, 0x31, 0, 0, 1, 0, 5, 0, 0, 0, 1, 0, 0, 0, 0, 0, 0, 0, 0x15, 0, 0, 0, 0, 0, 0,
+    0, 0, 0, 0, 0, 1, 0, 0, 0, 0x13, 0, 0, 0, 4, 0, 0, 0, 0x12, 0, 0, 0, 1, 0, 0, 0, 0x16, 0, 0, 0,
+    0, 0, 0, 0,
+];
 
 #[test]
 fn an_endless_task_acts_in_each_turn(rt: HostRuntime) -> Result<(), Fail> {
     let alloc = rt.alloc();
-    assert!(rt; verify(alloc, &endless(alloc, 1)?).is_ok());
-    assert!(rt; refused(alloc, &endless(alloc, 3)?, Kind::Loop, 3));
-    assert!(rt; refused(alloc, &endless(alloc, 0)?, Kind::Region, 3));
-    assert!(rt; refused(alloc, &endless(alloc, 5)?, Kind::Operand, 3));
+    assert!(rt; verify(alloc, &ENDLESS).is_ok());
+    let mut bytes = ENDLESS;
+    bytes[48] = 3;
+    assert!(rt; refused(alloc, &bytes, Kind::Loop, 3));
+    bytes[48] = 0;
+    assert!(rt; refused(alloc, &bytes, Kind::Region, 3));
+    bytes[48] = 5;
+    assert!(rt; refused(alloc, &bytes, Kind::Operand, 3));
     Ok(())
 }
 
-fn version(alloc: Global, instrs: Vec<Instr>) -> Result<Vec<u8>, AllocError> {
-    let entries = vec![in alloc; 0]?;
-    let versions = vec![in alloc; entries]?;
-    file(alloc, instrs, Vec::new(alloc), versions)
-}
-
-fn repeat(alloc: Global, turns: i32, inside: Instr) -> Result<Vec<u8>, AllocError> {
-    let instrs = vec![in alloc;
-        Instr::Push(turns),
-        Instr::Turn(5),
-        Instr::Payload,
-        inside,
-        Instr::Jump(1),
-        Instr::End,
-    ]?;
-    version(alloc, instrs)
-}
+// `int x = 0; event e spacing 1 deadline 1 { repeat 3 { x = payload; } }`: `push 3`, `turn 5`, `payload`, `store 0`, `jump 1`, `end`.
+const REPEAT: [u8; 72] = [
+    0x43, 0x4e, 0x4f, 0x31, 1, 0, 0, 1, 6, 0, 0, 0, 0, 0, 0, 0, 1, 0, 0, 0, 0, 0, 0, 0, 0, 0, 0, 0,
+    3, 0, 0, 0, 0x14, 0, 0, 0, 5, 0, 0, 0, 2, 0, 0, 0, 0, 0, 0, 0, 0x18, 0, 0, 0, 0, 0, 0, 0, 0x12,
+    0, 0, 0, 1, 0, 0, 0, 0x16, 0, 0, 0, 0, 0, 0, 0,
+];
 
 #[test]
 fn a_repeat_counts_down(rt: HostRuntime) -> Result<(), Fail> {
     let alloc = rt.alloc();
-    assert!(rt; verify(alloc, &repeat(alloc, 1000, Instr::Store(0))?).is_ok());
-    assert!(rt; refused(alloc, &repeat(alloc, 1001, Instr::Store(0))?, Kind::Loop, 1));
-    assert!(rt; refused(alloc, &repeat(alloc, 3, Instr::Load(0))?, Kind::Stack, 4));
+    assert!(rt; verify(alloc, &REPEAT).is_ok());
+    let mut bytes = REPEAT;
+    bytes[28] = 0xe9;
+    bytes[29] = 3;
+    assert!(rt; refused(alloc, &bytes, Kind::Loop, 1));
     Ok(())
 }
 
+// `store 0` takes the counter, and a number takes its place.
 #[test]
 fn the_counter_is_not_taken(rt: HostRuntime) -> Result<(), Fail> {
     let alloc = rt.alloc();
-    let instrs = vec![in alloc;
-        Instr::Push(2),
-        Instr::Turn(5),
-        Instr::Store(0),
-        Instr::Push(2),
-        Instr::Jump(1),
-        Instr::End,
-    ]?;
-    assert!(rt; refused(alloc, &version(alloc, instrs)?, Kind::Loop, 2));
-    Ok(())
-}
-
-// Two loops, each of 1,000 turns, one within the other, with some instructions in the inner one.
-fn nested(alloc: Global, posts: u32) -> Result<Vec<u8>, AllocError> {
-    let mut instrs = Vec::new(alloc);
-    instrs.push(Instr::Push(10))?;
-    instrs.push(Instr::Turn(6 + 2 * posts))?;
-    instrs.push(Instr::Push(1000))?;
-    instrs.push(Instr::Turn(5 + 2 * posts))?;
-    for _ in 0..posts {
-        instrs.push(Instr::Load(0))?;
-        instrs.push(Instr::Store(0))?;
-    }
-    instrs.push(Instr::Jump(3))?;
-    instrs.push(Instr::Jump(1))?;
-    instrs.push(Instr::End)?;
-    version(alloc, instrs)
-}
-
-#[test]
-fn a_version_is_short(rt: HostRuntime) -> Result<(), Fail> {
-    let alloc = rt.alloc();
-    assert!(rt; verify(alloc, &nested(alloc, 48)?).is_ok());
-    assert!(rt; refused(alloc, &nested(alloc, 49)?, Kind::Long, 0));
+    let mut bytes = REPEAT;
+    bytes[40] = 0x18;
+    bytes[48] = 0;
+    bytes[52] = 2;
+    assert!(rt; refused(alloc, &bytes, Kind::Loop, 2));
     Ok(())
 }
