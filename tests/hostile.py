@@ -272,6 +272,8 @@ def full_outputs(tests, short):
 
 # Memory that is refused
 
+REFUSING_ROWS = ["run-counts-once", "list-s1", "check-degrades", "replay-node", "bench-0"]
+
 def compiled_allocator(folder):
     """An allocator that refuses one request, or nothing where it can't be compiled."""
     compiler = shutil.which("cc") or shutil.which("gcc") or shutil.which("clang")
@@ -290,15 +292,18 @@ def refused_memory(tests, short):
             print("refused memory was not tried, for want of a C compiler")
             return
         told = os.path.join(folder, "requests")
-        for words in [*FORMS, ["bench", "1"], ["list", "bad"], ["help"]]:
-            refuse_each(tests, words, allocator, told, short)
+        for words in [*FORMS, ["list", "bad"], ["help"]]:
+            refuse_each(tests, words, tests.folder, allocator, told, short)
+        for row in REFUSING_ROWS:
+            with open(os.path.join(ROWS, row, "words")) as file:
+                refuse_each(tests, file.read().splitlines(), os.path.join(ROWS, row), allocator, told, short)
 
 
-def refuse_each(tests, words, allocator, told, short):
+def refuse_each(tests, words, folder, allocator, told, short):
     """Refuses each request for memory of a run in turn. In the short form some fifty of them, the first and the last ones among them."""
     def refusing(number):
         environment = {**os.environ, "LD_PRELOAD": allocator, "REFUSED": str(number), "REQUESTS": told}
-        return generate.run(tests.program, words, tests.folder, env=environment)
+        return generate.run(tests.program, words, folder, env=environment)
 
     whole = refusing(0)
     with open(told) as file:
