@@ -92,7 +92,7 @@ impl ModelBoard {
         ensures state { IfOk result (λ b. state_of b ≡ first_state (origin_of b)) }
     {
         let stored = device.start;
-        ModelBoard::begun(alloc, trace, fails, device, 0, stored, image)
+        ModelBoard::resumed(alloc, trace, fails, device, 0, stored, image)
     }
 
     /// What the board is now is what the rules lead to, when they are asked for the operations of its timeline.
@@ -102,8 +102,8 @@ impl ModelBoard {
         let _tick = self.tick;
     }
 
-    // A board that begins at this tick with these units.
-    fn begun(
+    /// A board as `new` makes it, but at this tick of the trace's life, and with this many units, at most the device's most.
+    pub fn resumed(
         alloc: Global,
         trace: Trace,
         fails: Fails,

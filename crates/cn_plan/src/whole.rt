@@ -1,35 +1,15 @@
 //! What a program's events ask for with none of them degraded.
 
 ghost use Rattle.std.specs.Prelude.{◌≡◌, ◌<◌, ◌≤◌, [], length, All, IfOk};
-ghost use Rattle.cat_program.specs.Declares.{spacing_of};
-ghost use Rattle.degradation.specs.Choice.{load_of, HasBounds};
+ghost use Rattle.degradation.specs.Choice.{HasBounds};
 ghost use Rattle.feasibility.specs.Chosen.{versions_of};
 ghost use Rattle.cn_plan.specs.Whole.{whole_loads as loads_in};
 
-use cat_program::{Event, Program, Timing, events_have_headers};
-use cost_bounds::{Bounds, Job};
+use cat_program::{Program, events_have_headers};
+use cost_bounds::Bounds;
+use degradation::load_of;
 use demand_core::Load;
 use std::alloc::{AllocError, Global};
-
-fn spacing(timing: Timing) -> u32
-    ensures { result ≡ spacing_of timing }
-{
-    match timing {
-        Timing::Every { period, .. } => period,
-        Timing::Spacing { least } => least,
-    }
-}
-
-fn load(event: &Event, job: Job) -> Load
-    ensures { result ≡ load_of event.now job }
-{
-    Load {
-        spacing: spacing(event.timing),
-        deadline: event.deadline,
-        units: job.units,
-        ticks: job.ticks,
-    }
-}
 
 /// What each event asks for in its version 0.
 pub fn whole_loads(
@@ -47,7 +27,7 @@ pub fn whole_loads(
     events_have_headers();
     let mut loads = Vec::new(alloc);
     for e in 0..program.events() {
-        loads.push(load(program.event(e), bounds.job(e, 0)))?;
+        loads.push(load_of(program.event(e), bounds.job(e, 0)))?;
     }
     Ok(loads)
 }

@@ -7,7 +7,7 @@ use Rattle.nv_memory.specs.declared.device.Cost.{Cost}
 use Rattle.cat_machine.specs.declared.instr.Instr.{Instr}
 use Rattle.cat_machine.specs.declared.instr.Instr.TheVariants.{Push, Jump, JumpZero, Turn, End}
 use Rattle.cat_machine.specs.ClassOf.{class_of}
-use Rattle.cat_machine.specs.CodeValue.{CodeValue}
+use Rattle.cat_machine.specs.CodeValue.{CodeValue, versions_at}
 use Rattle.cat_machine.specs.Costs.{Costs, place_cost, path_cost}
 use Rattle.cost_bounds.specs.declared.job.Job.{Job}
 use Rattle.cost_bounds.specs.BoundsValue.{BoundsValue}
@@ -55,6 +55,10 @@ pub record SumsTo (u : Costs) (code : CodeValue) (pc m : ℕ) : Type 0 where
 pub record SectionKnown (device : Device) (code : CodeValue) (pc : ℕ) (job : Job) : Type 0 where
   pub units : SumsTo (units_of device) code pc job.units
   pub ticks : SumsTo (ticks_of device) code pc job.ticks
+
+-- how many places the tasks' code has: those before the first version of the first event, or all where there is none
+abbrev pub tasks_in : CodeValue → ℕ
+tasks_in code = min (length code.instrs) (unwrap_or (slice_get (versions_at code 0) 0) (length code.instrs))
 
 -- ---- the handlers' code
 

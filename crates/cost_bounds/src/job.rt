@@ -68,7 +68,8 @@ impl Model for Bounds {
 impl Bounds {
     ghost use Rattle.cost_bounds.specs.BoundsValue.{HasJob, bounds_by, job_at, longest_of};
 
-    pub(crate) fn of(jobs: Vec<Vec<Job>>, section: Job, checkpoint: Job, wake: Job) -> Bounds
+    /// The bounds with these jobs of each event's versions. It takes no memory.
+    pub fn of(jobs: Vec<Vec<Job>>, section: Job, checkpoint: Job, wake: Job) -> Bounds
         ensures { result ≡ bounds_by jobs.items section checkpoint wake }
     {
         Bounds {

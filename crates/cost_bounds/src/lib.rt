@@ -11,4 +11,4 @@ mod total;
 
 pub use job::{Bounds, Job};
 pub use laws::{runs_within_law, sections_are_paths, versions_have_jobs_law};
-pub use total::bounds;
+pub use total::{bounds, code_bounds};

@@ -5,7 +5,7 @@ ghost use Rattle.cat_program.specs.Places.{tasks_size};
 ghost use Rattle.cat_program.specs.Checked.{Checked, IsChecked, bodies_of};
 ghost use Rattle.cat_machine.specs.CodeValue.{versions_at};
 ghost use Rattle.cat_machine.specs.Code.{code_of};
-ghost use Rattle.cost_bounds.specs.Pass.{AllKnown, PlaceKnown};
+ghost use Rattle.cost_bounds.specs.Pass.{AllKnown, PlaceKnown, tasks_in};
 
 use crate::job::Job;
 use crate::place::{handler_from, section_from};
@@ -24,6 +24,7 @@ fn first_entry(code: &Code) -> Option<u32>
 /// How many places the tasks' code has. The events' code comes after it.
 pub(crate) fn tasks_end(code: &Code) -> u32
     ensures within { result ≤ length code.now.instrs }
+    ensures is { result ≡ tasks_in code.now }
     ensures value { (p : Checked) → IsChecked p → code.now ≡ code_of p → result ≡ tasks_size (bodies_of p) }
 {
     code_is_laid_out();

@@ -104,7 +104,9 @@ fn node(alloc: Global) -> Result<Code, AllocError> {
 fn the_sensor_node_has_its_bounds(rt: HostRuntime) -> Result<(), Fail> {
     let alloc = rt.alloc();
     let code = node(alloc)?;
-    let bounds = made(alloc, &code, &device(cost(1, 2), cost(1, 4)), 1)?;
+    let Ok(bounds) = code_bounds(alloc, &code, &device(cost(1, 2), cost(1, 4)), 1) else {
+        return Err("memory".into());
+    };
     let [sample, tap] = bounds.jobs() else {
         return Err("two events have jobs".into());
     };

@@ -8,7 +8,7 @@ ghost use Rattle.cat_machine.specs.Fits.{Fits};
 ghost use Rattle.cat_program.specs.Places.{tasks_size};
 ghost use Rattle.cat_program.specs.Checked.{Checked, IsChecked, bodies_of};
 ghost use Rattle.cost_bounds.specs.Greatest.{AreBounds, RunsWithin};
-ghost use Rattle.cost_bounds.specs.Pass.{AreMade, IsDearest, around_job, cost_job, entry_job, entry_jobs};
+ghost use Rattle.cost_bounds.specs.Pass.{AreMade, IsDearest, around_job, cost_job, entry_job, entry_jobs, tasks_in};
 
 use crate::job::{Bounds, Job};
 use crate::pass::{pass, tasks_end};
@@ -90,7 +90,8 @@ pub(crate) fn made(
     device: &Device,
     lines: u32,
 ) -> Result<Bounds, AllocError>
-    ensures { IfOk result (λ b. (p : Checked) → IsChecked p → code.now ≡ code_of p → AreMade code.now device.now lines (tasks_size (bodies_of p)) b) }
+    ensures any { IfOk result (λ b. AreMade code.now device.now lines (tasks_in code.now) b) }
+    ensures compiled { IfOk result (λ b. (p : Checked) → IsChecked p → code.now ≡ code_of p → AreMade code.now device.now lines (tasks_size (bodies_of p)) b) }
 {
     let tasks = tasks_end(code);
     let most = pass(alloc, code, device, tasks)?;
@@ -101,6 +102,22 @@ pub(crate) fn made(
     let section = dearest(&most[..tasks as usize]);
     let checkpoint = write.times(u64::from(lines) + 1);
     Ok(Bounds::of(jobs, section, checkpoint, wake))
+}
+
+/// What one pass over any code works out on a device, where a slot takes this many lines of 64 bytes. For code whose jumps
+/// and loops are sound these are the greatest sums over its paths.
+pub fn code_bounds(
+    alloc: Global,
+    code: &Code,
+    device: &Device,
+    lines: u32,
+) -> Result<Bounds, NoMemory>
+    ensures { IfOk result (λ b. AreMade code.now device.now lines (tasks_in code.now) b) }
+{
+    match made(alloc, code, device, lines) {
+        Ok(bounds) => Ok(bounds),
+        Err(_) => Err(NoMemory),
+    }
 }
 
 /// The bounds of a program's code on a device, where a slot takes this many lines of 64 bytes.

@@ -3,7 +3,7 @@
 ghost use Rattle.std.specs.Prelude.{◌≡◌, ◌+◌, ◌<◌, ◌≤◌, IfOk, IfErr};
 ghost use Rattle.demand_core.specs.Demand.{room_use, reserve};
 ghost use Rattle.feasibility.specs.Chosen.{AreTables};
-ghost use Rattle.degradation.specs.Choice.{base_of, level_of, numbers_of, supply_of, tables_of, HasBounds, IsChoice, IsNoChoice, Suits};
+ghost use Rattle.degradation.specs.Choice.{base_of as base_in, level_of, numbers_of as numbers_in, supply_of, tables_of, HasBounds, IsChoice, IsNoChoice, Suits};
 
 use crate::chosen::Chosen;
 use crate::supply::Supply;
@@ -15,8 +15,9 @@ use feasibility::{ChooseFault, Vector, choose_vector};
 use nv_memory::Device;
 use std::alloc::Global;
 
-fn base(bounds: &Bounds, device: &Device, supply: Supply) -> Base
-    ensures { result ≡ base_of bounds.now device.now supply }
+/// What the device gives with a supply, and what is needed beside the jobs of events.
+pub fn base_of(bounds: &Bounds, device: &Device, supply: Supply) -> Base
+    ensures { result ≡ base_in bounds.now device.now supply }
 {
     Base {
         cap: device.cap,
@@ -29,10 +30,10 @@ fn base(bounds: &Bounds, device: &Device, supply: Supply) -> Base
     }
 }
 
-/// The numbers of a vector that the store has room for.
-fn numbers(bounds: &Bounds, device: &Device, lines: u32, vector: &Vector) -> Numbers
+/// The numbers of a choice for which the store has room.
+pub fn numbers_of(bounds: &Bounds, device: &Device, lines: u32, vector: &Vector) -> Numbers
     requires { vector.now.reserve + bounds.now.checkpoint.units + bounds.now.section.units + bounds.now.wake.units ≤ device.now.cap }
-    ensures { result ≡ numbers_of bounds.now device.now lines vector.now }
+    ensures { result ≡ numbers_in bounds.now device.now lines vector.now }
 {
     let reserve = vector.reserve as u64;
     let checkpoint = bounds.checkpoint().units;
@@ -77,9 +78,9 @@ pub fn choose_with(
     let Ok(tables) = tables(alloc, program, bounds) else {
         return Err(ChooseFault::NoMemory);
     };
-    let base = base(bounds, device, supply);
+    let base = base_of(bounds, device, supply);
     let vector = choose_vector(alloc, &base, tables.as_slice(), program.mentions())?;
-    let numbers = numbers(bounds, device, lines, &vector);
+    let numbers = numbers_of(bounds, device, lines, &vector);
     Ok(Chosen {
         versions: vector.versions,
         loads: vector.loads,

@@ -9,8 +9,9 @@ mod placed;
 mod supply;
 mod tables;
 
-pub use choice::{choose, choose_with};
+pub use choice::{base_of, choose, choose_with, numbers_of};
 pub use chosen::Chosen;
 pub use law::{choices_suit, chosen_law, degraded_loads_law};
 pub use placed::{bounds_of, layout_of};
 pub use supply::Supply;
+pub use tables::load_of;

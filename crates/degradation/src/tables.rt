@@ -3,7 +3,7 @@
 ghost use Rattle.std.specs.Prelude.{◌≡◌, ◌<◌, length, map, IfOk};
 ghost use Rattle.cat_program.specs.Declares.{spacing_of};
 ghost use Rattle.cost_bounds.specs.BoundsValue.{versions_in};
-ghost use Rattle.degradation.specs.Choice.{load_of, tables_of, HasBounds};
+ghost use Rattle.degradation.specs.Choice.{load_of as load_in, tables_of, HasBounds};
 
 use cat_program::{Event, Program, Timing, events_have_headers};
 use cn_base::List;
@@ -20,8 +20,9 @@ fn spacing(timing: Timing) -> u32
     }
 }
 
-fn load(event: &Event, job: Job) -> Load
-    ensures { result ≡ load_of event.now job }
+/// What an event asks for in a version that takes this at most.
+pub fn load_of(event: &Event, job: Job) -> Load
+    ensures { result ≡ load_in event.now job }
 {
     Load {
         spacing: spacing(event.timing),
@@ -35,11 +36,11 @@ fn load(event: &Event, job: Job) -> Load
 fn loads(alloc: Global, event: &Event, bounds: &Bounds, e: u8) -> Result<Vec<Load>, AllocError>
     requires event { e < length bounds.now.jobs }
     requires versions { event.now.versions ≡ length (versions_in bounds.now e) }
-    ensures { IfOk result (λ table. table.items ≡ map (load_of event.now) (versions_in bounds.now e)) }
+    ensures { IfOk result (λ table. table.items ≡ map (load_in event.now) (versions_in bounds.now e)) }
 {
     let mut table = Vec::new(alloc);
     for v in 0..event.versions {
-        table.push(load(event, bounds.job(e, v)))?;
+        table.push(load_of(event, bounds.job(e, v)))?;
     }
     Ok(table)
 }

@@ -30,12 +30,12 @@ loop-e-preserved c =
     let due = declared.due in
     let in_time = declared.in_time in
     let more = loads_more c.args.program.now c.args.bounds.now c.loop-e.e c.event.result.now c.job.result c.event.ensures.header c.job.ensures in
-    let spacing = ap (λ (x : Load). x.spacing) c.load.ensures in
-    let deadline = ap (λ (x : Load). x.deadline) c.load.ensures in
+    let spacing = ap (λ (x : Load). x.spacing) c.load_of.ensures in
+    let deadline = ap (λ (x : Load). x.deadline) c.load_of.ensures in
     record {
-      loads = cc (items, more, c.load.ensures, c.loop-e.invariant.loads);
-      spacings = subst (All (λ (x : Load). 0 < x.spacing)) (sym items) (All-push (λ (x : Load). 0 < x.spacing) c.loop-e.loads.items c.load.result c.loop-e.invariant.spacings (omega (arith, due, in_time, spacing)));
-      within = subst (All (λ (x : Load). x.deadline ≤ x.spacing)) (sym items) (All-push (λ (x : Load). x.deadline ≤ x.spacing) c.loop-e.loads.items c.load.result c.loop-e.invariant.within (omega (arith, in_time, spacing, deadline)));
+      loads = cc (items, more, c.load_of.ensures, c.loop-e.invariant.loads);
+      spacings = subst (All (λ (x : Load). 0 < x.spacing)) (sym items) (All-push (λ (x : Load). 0 < x.spacing) c.loop-e.loads.items c.load_of.result c.loop-e.invariant.spacings (omega (arith, due, in_time, spacing)));
+      within = subst (All (λ (x : Load). x.deadline ≤ x.spacing)) (sym items) (All-push (λ (x : Load). x.deadline ≤ x.spacing) c.loop-e.loads.items c.load_of.result c.loop-e.invariant.within (omega (arith, in_time, spacing, deadline)));
     }
 
 pub returns-clause-loads : goal.returns-clause-loads
