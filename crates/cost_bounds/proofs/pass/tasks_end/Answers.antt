@@ -1,5 +1,5 @@
 use Rattle.std.proofs.Common.{length, sym, ap, ◌∙◌, arith}
-use Rattle.std.specs.Prelude.{slice_get, unwrap_or, min}
+use Rattle.std.specs.Prelude.{slice_get}
 use Rattle.cat_machine.specs.CodeValue.{CodeValue, versions_at}
 use Rattle.cost_bounds.proofs.Ends.{end_without_events, end_at_first, end_somewhere, no_first_version}
 use Rattle.cost_bounds.proofs.pass.tasks_end.Goals as goal
