@@ -6,7 +6,7 @@ use Rattle.board_core.specs.Outlook.{IsOutlook}
 use Rattle.board_core.specs.Reached.{IsReached, model_start}
 use Rattle.board_core.proofs.ModelLemmas.{first_is, first_reached, first_sound}
 use Rattle.board_core.proofs.Outlooks.{none_outlook}
-use Rattle.board_core.proofs.model_board.ModelBoard.begun.Goals as goal
+use Rattle.board_core.proofs.model_board.ModelBoard.resumed.Goals as goal
 
 pub invariant_of-result : goal.invariant_of-result
 invariant_of-result c =
