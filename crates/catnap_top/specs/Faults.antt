@@ -13,8 +13,9 @@ use Rattle.catnap_top.specs.declared.fault.Table.TheVariants as table
 use Rattle.catnap_top.specs.declared.fault.Fault.{Fault}
 use Rattle.catnap_top.specs.declared.fault.Fault.TheVariants as fault
 use Rattle.catnap_top.specs.declared.status.Status.{Status}
-use Rattle.catnap_top.specs.declared.status.Status.TheVariants.{BadDevice, BadTrace, BadArrivals, BadFails, BadLink, WindowTooLong, Rejected}
+use Rattle.catnap_top.specs.declared.status.Status.TheVariants.{BadDevice, BadTrace, BadArrivals, BadFails, BadImage, BadObject, BadLink, WindowTooLong, Rejected}
 use Rattle.catnap_top.specs.Answer.{Answer, line}
+use Rattle.catnap_top.specs.FileFaults.{image_line, object_line}
 use Rattle.catnap_top.specs.Refusals.{refused}
 
 -- ---- a profile
@@ -69,3 +70,5 @@ fault_answer (fault.Source kind) = refused kind
 fault_answer (fault.Device kind) = record { status = BadDevice; text = profile_line kind }
 fault_answer (fault.Table which number kind) = record { status = table_status which; text = table_line which number kind }
 fault_answer (fault.Choice why) = no_choice_answer why
+fault_answer (fault.Image bad) = record { status = BadImage; text = image_line bad.kind bad.at }
+fault_answer (fault.Object bad) = record { status = BadObject; text = object_line bad.kind bad.place }

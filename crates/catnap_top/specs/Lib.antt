@@ -2,6 +2,7 @@ pub mod Answer
 pub mod Statuses
 pub mod Refusals
 pub mod Places
+pub mod FileFaults
 pub mod Faults
 pub mod Look
 pub mod Alike
@@ -13,6 +14,8 @@ pub mod ReadyValue
 pub mod Listed
 pub mod CompiledValue
 pub mod Object
+pub mod RunObject
+pub mod Loaded
 pub mod Bench
 pub mod Image
 pub mod Check
@@ -20,6 +23,8 @@ pub mod Plan
 pub mod Replay
 pub mod Replayed
 pub mod Lives
+pub mod Resume
+pub mod Resumed
 pub mod Uplink
 pub mod Uplinked
 pub mod SelectedValue

@@ -9,7 +9,7 @@ use Rattle.board_core.specs.Reached.{IsReached, first_state, model_start}
 use Rattle.cn_scheduler.specs.declared.engine.End.{End}
 use Rattle.cn_scheduler.specs.declared.engine.End.TheVariants.{TraceEnded, LogFull}
 use Rattle.cn_scheduler.specs.declared.plan.Plan.{Plan}
-use Rattle.cn_scheduler.specs.Point.{Point}
+use Rattle.cn_scheduler.specs.Point.{Point, Work}
 use Rattle.cn_scheduler.specs.Chunks.{Link, IsLawful, point_after}
 use Rattle.lawful_timeline.specs.Claims.{EndsAs, last_outcome}
 use Rattle.cn_runtime.specs.Planned.{IsPlanFor}
@@ -28,27 +28,31 @@ pub record Life : Type 0 where
   pub state : State
   pub end : End
 
--- the first decision point: the board is off, and the program is in its first state
-abbrev pub first_point : ReplayFiles → Layout → ModelOrigin → Point
-first_point files l origin = record { board = first_state origin; work = first_work files.program l; dirty = false }
+-- the first decision point: the board is off, with a working value of which all is saved
+abbrev pub start_point : ModelOrigin → Work → Point
+start_point origin work = record { board = first_state origin; work = work; dirty = false }
 
--- The board begins at tick 0 with the device's first units and the program's first image. From there on a lawful timeline leads to its
--- last state, by the rules of the trace, the failures and the device.
-pub record Lives (files : ReplayFiles) (chosen : Chosen) (life : Life) : Type 0 where
+-- From a board as it begins, and a working value, a lawful timeline leads to the board's last state, by the rules of the trace, the
+-- failures and the device.
+pub record Goes (files : ReplayFiles) (chosen : Chosen) (begun : Layout → Work) (life : Life) : Type 0 where
   pub plan : Plan
   pub is_plan : IsPlanFor files.program files.device files.arrivals chosen plan
   pub layout_is : life.layout ≡ plan.layout
   pub trace_is : life.origin.trace ≡ files.trace
   pub fails_are : life.origin.fails ≡ files.failures
   pub device_is : life.origin.device ≡ files.device
-  pub at_first : life.origin.tick ≡ 0
-  pub stored_is : life.origin.stored ≡ files.device.start
-  pub fresh : IsFresh files.program plan.layout life.origin.image
   pub chunks : List Link
-  pub lawful : IsLawful plan (first_point files plan.layout life.origin) chunks
-  pub leads : (point_after (first_point files plan.layout life.origin) chunks).board ≡ life.state
+  pub lawful : IsLawful plan (start_point life.origin (begun plan.layout)) chunks
+  pub leads : (point_after (start_point life.origin (begun plan.layout)) chunks).board ≡ life.state
   pub ends : EndsAs life.end (last_outcome chunks)
   pub reached : IsReached life.origin life.state
+
+-- The board begins at tick 0 with the device's first units and the program's first image, and the program in its first state.
+pub record Lives (files : ReplayFiles) (chosen : Chosen) (life : Life) : Type 0 where
+  pub goes : Goes files chosen (first_work files.program) life
+  pub at_first : life.origin.tick ≡ 0
+  pub stored_is : life.origin.stored ≡ files.device.start
+  pub fresh : IsFresh files.program goes.plan.layout life.origin.image
 
 -- files, the versions that are chosen for their program, and the life that follows
 pub record Lived : Type 0 where

@@ -1,7 +1,7 @@
 -- What the words and the files call for. Each command adds a case to both definitions.
 use Rattle.std.specs.Prelude.{ℕ, List, [], get_or}
 use Rattle.catnap_words.specs.declared.form.Form.{Form}
-use Rattle.catnap_words.specs.declared.form.Form.TheVariants.{Run, List as Listing, Check, Plan, Replay, Image, Uplink, Object, Bench}
+use Rattle.catnap_words.specs.declared.form.Form.TheVariants.{Run, List as Listing, Check, Plan, Replay, Image, Resume, Uplink, Object, RunObject, Bench}
 use Rattle.catnap_top.specs.declared.reply.Reply.{Reply}
 use Rattle.catnap_top.specs.declared.reply.Reply.TheVariants as reply
 use Rattle.catnap_top.specs.Answer.{Answer, usage, read_fault}
@@ -11,11 +11,15 @@ use Rattle.catnap_top.specs.Run.{running}
 use Rattle.catnap_top.specs.ReadyValue.{ready_answer}
 use Rattle.catnap_top.specs.Listed.{listing, listed}
 use Rattle.catnap_top.specs.Object.{compiling, filed}
+use Rattle.catnap_top.specs.RunObject.{object_ran, running_object}
+use Rattle.catnap_top.specs.Loaded.{CanRun, loaded_answer}
 use Rattle.catnap_top.specs.Check.{checking, checked}
 use Rattle.catnap_top.specs.Plan.{planning, planned}
 use Rattle.catnap_top.specs.Replay.{replaying}
 use Rattle.catnap_top.specs.Replayed.{lived_of, replayed_answer, IsReadyToTell}
 use Rattle.catnap_top.specs.Image.{saving, saved}
+use Rattle.catnap_top.specs.Resume.{resuming}
+use Rattle.catnap_top.specs.Resumed.{CanTellRest, resumed_answer}
 use Rattle.catnap_top.specs.Bench.{benching, summed}
 use Rattle.catnap_top.specs.Uplink.{uplinking}
 use Rattle.catnap_top.specs.Uplinked.{uplinked_answer}
@@ -29,6 +33,9 @@ looks_of Check files = checking (get_or files 0 []) (get_or files 1 [])
 looks_of Plan files = planning (get_or files 0 []) (get_or files 1 [])
 looks_of Replay files = replaying (get_or files 0 []) (get_or files 1 []) (get_or files 2 []) (get_or files 3 []) (get_or files 4 [])
 looks_of Image files = saving (get_or files 0 []) (get_or files 1 []) (get_or files 2 []) (get_or files 3 []) (get_or files 4 [])
+looks_of Resume files =
+    resuming (get_or files 0 []) (get_or files 1 []) (get_or files 2 []) (get_or files 3 []) (get_or files 4 []) (get_or files 5 [])
+looks_of (RunObject steps) files = running_object steps (get_or files 0 [])
 looks_of (Bench size) files = benching size
 looks_of Uplink files =
     uplinking (get_or files 0 []) (get_or files 1 []) (get_or files 2 []) (get_or files 3 []) (get_or files 4 []) (get_or files 5 [])
@@ -49,6 +56,8 @@ reply_answer (reply.Check selected) = checked selected.program selected.chosen
 reply_answer (reply.Plan given) = planned given.program given.plan
 reply_answer (reply.Replay replayed) = replayed_answer replayed
 reply_answer (reply.Image replayed) = saved (lived_of replayed)
+reply_answer (reply.Resume resumed) = resumed_answer resumed
+reply_answer (reply.RunObject loaded) = loaded_answer loaded
 reply_answer (reply.Bench size replayed) = summed size (lived_of replayed)
 reply_answer (reply.Uplink uplinked) = uplinked_answer uplinked
 
@@ -56,4 +65,6 @@ reply_answer (reply.Uplink uplinked) = uplinked_answer uplinked
 abbrev pub CanBeWritten : Reply → Type 0
 CanBeWritten (reply.Replay replayed) = IsReadyToTell replayed
 CanBeWritten (reply.Bench size replayed) = IsReadyToTell replayed
+CanBeWritten (reply.Resume resumed) = CanTellRest resumed
+CanBeWritten (reply.RunObject loaded) = CanRun loaded
 CanBeWritten _ = Unit {0}

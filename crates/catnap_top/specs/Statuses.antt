@@ -17,4 +17,6 @@ number_of_status status.WindowTooLong = 10
 number_of_status status.Rejected = 11
 number_of_status status.LogFull = 12
 number_of_status status.NoMemory = 13
+number_of_status status.BadImage = 14
+number_of_status status.BadObject = 16
 number_of_status status.BadLink = 17

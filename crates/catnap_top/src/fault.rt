@@ -8,6 +8,7 @@ ghost use Rattle.catnap_top.specs.Answer.{line};
 ghost use Rattle.device_profile.specs.Keys.{text_of};
 
 use crate::Status;
+use crate::file_fault::{BadImage, BadObject, put_image_fault, put_object_fault};
 use crate::refusal::SourceFault;
 use cn_base::{Piece, Sink, WriteFail, put, put_line};
 use cn_report::{write_rejected, write_window_fault};
@@ -57,6 +58,8 @@ pub enum Fault {
     /// The first row with a fault, the header being row 0, and what is wrong with it.
     Table(Table, u32, RowKind),
     Choice(NoChoice),
+    Image(BadImage),
+    Object(BadObject),
 }
 
 fn put_key<K: Sink>(sink: &mut K, kind: &[u8], key: Key) -> Result<(), WriteFail>
@@ -183,6 +186,8 @@ impl Fault {
             Fault::Device(_) => Status::BadDevice,
             Fault::Table(table, _, _) => table.status(),
             Fault::Choice(why) => why.status(),
+            Fault::Image(_) => Status::BadImage,
+            Fault::Object(_) => Status::BadObject,
         }
     }
 
@@ -196,6 +201,8 @@ impl Fault {
             Fault::Device(fault) => put_profile_fault(sink, fault),
             Fault::Table(table, row, kind) => put_row_fault(sink, table, row, kind),
             Fault::Choice(why) => why.write(sink),
+            Fault::Image(fault) => put_image_fault(sink, fault),
+            Fault::Object(fault) => put_object_fault(sink, fault),
         }
     }
 }

@@ -39,7 +39,7 @@ pub struct Replayed {
     pub shadow: Shadow,
 }
 
-fn stop_for_replay(fault: PrepareFault) -> Stop
+pub fn stop_for_replay(fault: PrepareFault) -> Stop
     ensures { result ≡ stop_of_replay fault }
 {
     match fault {

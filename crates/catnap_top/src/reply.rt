@@ -13,12 +13,15 @@ use crate::fault::Fault;
 use crate::image::{prepare_image, write_image};
 use crate::line::put_read_fault;
 use crate::list::{prepare_list, write_list};
+use crate::loaded::Loaded;
 use crate::object::{prepare_object, write_file};
 use crate::plan::{prepare_plan, write_planned};
 use crate::planned::Planned;
 use crate::ready::Ready;
 use crate::replay::{Replayed, prepare_replay, status_for, write_replay};
+use crate::resume::{Resumed, prepare_resume, write_rest};
 use crate::run::{prepare_run, write_run};
+use crate::runobject::{prepare_runobject, write_sections};
 use crate::selected::Selected;
 use crate::stop::Stop;
 use crate::uplink::{Uplinked, prepare_uplink, write_uplinked};
@@ -42,6 +45,8 @@ pub enum Reply {
     Plan(Planned),
     Replay(Replayed),
     Image(Replayed),
+    Resume(Resumed),
+    RunObject(Loaded),
     Bench { size: u32, replayed: Replayed },
     Uplink(Uplinked),
 }
@@ -56,6 +61,8 @@ impl Reply {
             Reply::Refused(fault) => fault.status(),
             Reply::Run(_) | Reply::List(_) | Reply::Object(_) | Reply::Check(_) | Reply::Plan(_) =>
                 Status::Done,
+            Reply::RunObject(_) => Status::Done,
+            Reply::Resume(resumed) => status_for(resumed.replayed.end),
             Reply::Replay(replayed) | Reply::Image(replayed) | Reply::Bench { replayed, .. } => {
                 status_for(replayed.end)
             }
@@ -79,6 +86,8 @@ impl Reply {
             Reply::Plan(planned) => write_planned(sink, planned),
             Reply::Replay(replayed) => write_replay(sink, replayed),
             Reply::Image(replayed) => write_image(sink, replayed),
+            Reply::Resume(resumed) => write_rest(sink, resumed),
+            Reply::RunObject(loaded) => write_sections(sink, loaded),
             Reply::Bench { size, replayed } => write_bench(sink, size, replayed),
             Reply::Uplink(uplinked) => write_uplinked(sink, uplinked),
         }
@@ -113,6 +122,16 @@ fn prepare(alloc: Global, form: Form, files: &[Vec<u8>]) -> Result<Reply, Stop>
             files[3].as_slice(),
             files[4].as_slice(),
         ),
+        Form::Resume => prepare_resume(
+            alloc,
+            files[0].as_slice(),
+            files[1].as_slice(),
+            files[2].as_slice(),
+            files[3].as_slice(),
+            files[4].as_slice(),
+            files[5].as_slice(),
+        ),
+        Form::RunObject { steps } => prepare_runobject(alloc, steps, files[0].as_slice()),
         Form::Bench { size } => prepare_bench(alloc, size),
         Form::Uplink => prepare_uplink(
             alloc,

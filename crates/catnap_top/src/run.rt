@@ -22,7 +22,7 @@ use cn_base::{Page, Piece, Sink, WriteFail};
 use std::alloc::Global;
 
 /// Whether a step existed.
-fn is_step(stepped: Stepped) -> bool
+pub fn is_step(stepped: Stepped) -> bool
     ensures step { result ≡ true → stepped ≡ None → ⊥ }
     ensures none { result ≡ false → stepped ≡ None }
 {
@@ -33,7 +33,7 @@ fn is_step(stepped: Stepped) -> bool
 }
 
 /// Adds the line of a step's output, where there is one.
-fn add_step<K: Sink>(page: &mut Page<'_, K>, stepped: Stepped) -> Result<(), WriteFail>
+pub fn add_step<K: Sink>(page: &mut Page<'_, K>, stepped: Stepped) -> Result<(), WriteFail>
     ensures same_sink { sink_name page.new ≡ sink_name page.old }
     ensures text { AddsTo K.written page.old page.new (out_line stepped) result }
     ensures cause { HasCause (K.faults (sink_in page.old)) (K.faults (sink_in page.new)) result }
@@ -51,7 +51,7 @@ fn add_step<K: Sink>(page: &mut Page<'_, K>, stepped: Stepped) -> Result<(), Wri
 }
 
 /// Adds how many steps were taken.
-fn add_count<K: Sink>(page: &mut Page<'_, K>, count: u32) -> Result<(), WriteFail>
+pub fn add_count<K: Sink>(page: &mut Page<'_, K>, count: u32) -> Result<(), WriteFail>
     ensures same_sink { sink_name page.new ≡ sink_name page.old }
     ensures text { AddsTo K.written page.old page.new (steps_line count) result }
     ensures cause { HasCause (K.faults (sink_in page.old)) (K.faults (sink_in page.new)) result }

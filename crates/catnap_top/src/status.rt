@@ -18,6 +18,8 @@ pub enum Status {
     Rejected,
     LogFull,
     NoMemory,
+    BadImage,
+    BadObject,
     BadLink,
 }
 
@@ -40,6 +42,8 @@ impl Status {
             Status::Rejected => 11,
             Status::LogFull => 12,
             Status::NoMemory => 13,
+            Status::BadImage => 14,
+            Status::BadObject => 16,
             Status::BadLink => 17,
         }
     }

@@ -3,10 +3,10 @@ ghost use Rattle.catnap_words.specs.Words.{texts};
 ghost use Rattle.catnap_top.specs.Reply.{reply_answer, CanBeWritten};
 ghost use Rattle.catnap_top.specs.Course.{outside, Answers, Ends};
 ghost use Rattle.catnap_top.specs.Clauses.{HasAsked, HasCauses, IsComplete};
-ghost use Rattle.catnap_top.specs.Headline.{HasHeadline};
+ghost use Rattle.catnap_top.specs.Headline.{HasHeadline, HasRest};
 
 use crate::Status;
-use crate::headline::replays_show_runs;
+use crate::headline::{replays_show_runs, resumes_show_runs};
 use crate::reading::{ReadStop, read_files};
 use crate::reply::{Reply, reply_to};
 use catnap_words::{form_in, names_in};
@@ -69,6 +69,10 @@ fn respond<I: Inputs, K: Sink>(
 /// - `replay SRC DEVICE TRACE ARRIVALS FAILS`: the report of the source's life on the device, where the
 ///   trace, the arrivals and the failures are as these tables say.
 /// - `image SRC DEVICE TRACE ARRIVALS FAILS`: what that device holds at the end of this life, as a file of bytes.
+/// - `resume SRC DEVICE TRACE ARRIVALS FAILS IMAGE`: the report of a life that goes on from such a file, at its tick and with the
+///   board off. Of an event that was done before, the report doesn't know when.
+/// - `runobject OBJ STEPS`, STEPS as for `run`: the `out` lines of the first STEPS sections of an object file's tasks, or of all that
+///   exist, and how many these are.
 /// - `bench N`, N being 1 to 4 decimal digits of at most 1,665: how many lines of each kind that report has, and
 ///   how it ends, for a source and tables of that size that the program makes itself. It reads no file.
 /// - `uplink SRC DEVICE TRACE ARRIVALS FAILS LINK`: how far the committed log of that life came over a link of these steps,
@@ -80,8 +84,9 @@ fn respond<I: Inputs, K: Sink>(
 /// faults rose; `BadSource` where the source has more than 262,144 bytes, has no tokens or no tree,
 /// or breaks a condition, with the first of these kinds; `BadDevice` where the profile is none, with
 /// its first fault; `BadTrace`, `BadArrivals` and `BadFails` where a table is none, with its first row
-/// that has a fault; `BadLink` likewise; `WindowTooLong` and `Rejected` where there is no choice. Each of these writes one
-/// fault line, and they are looked at in this order. `LogFull` where the log of a replay has no place
+/// that has a fault; `BadLink` likewise; `WindowTooLong` and `Rejected` where there is no choice; `BadImage` where a
+/// condition on the saved image fails, with the first of them. Each of these writes one fault line, and they are looked at in this
+/// order. `BadObject` where the file is no object, with the lowest rule that it breaks. `LogFull` where the log of a replay has no place
 /// for a record; the whole report up to then is written.
 /// `WriteFault` only where the sink's count of faults rose, and a proper prefix of the text has been
 /// written then. `NoMemory` before the first byte is written.
@@ -116,9 +121,15 @@ pub fn catnap<I: Inputs, K: Sink>(
         (outside (I.asked inputs.old) (I.faults inputs.old) (K.written sink.old) (K.faults sink.old))
         (outside (I.asked inputs.new) (I.faults inputs.new) (K.written sink.new) (K.faults sink.new))
         result }
+    // So does the report of a life that goes on from a saved image, of which that image is an earlier moment.
+    ensures rest { HasRest (texts words.now) (I.files inputs.old)
+        (outside (I.asked inputs.old) (I.faults inputs.old) (K.written sink.old) (K.faults sink.old))
+        (outside (I.asked inputs.new) (I.faults inputs.new) (K.written sink.new) (K.faults sink.new))
+        result }
     // No file was changed.
     ensures files { I.files inputs.new ≡ I.files inputs.old }
 {
     replays_show_runs();
+    resumes_show_runs();
     respond(alloc, words, inputs, sink)
 }
