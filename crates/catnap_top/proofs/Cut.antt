@@ -13,7 +13,7 @@ use Rattle.harvest_trace.specs.TraceTable.{trace_of}
 use Rattle.harvest_trace.specs.declared.row.TraceRow.{TraceRow}
 use Rattle.nv_memory.specs.declared.device.Device.{Device}
 use Rattle.catnap_words.specs.declared.form.Form.{Form}
-use Rattle.catnap_words.specs.declared.form.Form.TheVariants.{Run, List as Listing, Check, Plan, Replay, Image, Uplink, Object, Bench}
+use Rattle.catnap_words.specs.declared.form.Form.TheVariants.{Run, List as Listing, Check, Plan, Replay, Image, Resume, Uplink, Object, RunObject, Bench}
 use Rattle.catnap_top.specs.declared.refusal.SourceFault.{SourceFault}
 use Rattle.catnap_top.specs.declared.fault.ProfileFault.{ProfileFault}
 use Rattle.catnap_top.specs.declared.fault.ProfileFault.TheVariants as profile
@@ -27,6 +27,11 @@ use Rattle.catnap_top.specs.Uplink.{links_in}
 use Rattle.catnap_top.specs.declared.files.ReplayFiles.{ReplayFiles}
 use Rattle.cn_uplink.specs.Table.{links_of}
 use Rattle.catnap_top.specs.Reply.{looks_of, CallsFor}
+use Rattle.catnap_top.specs.RunObject.{IsObject, object_in}
+use Rattle.catnap_top.specs.Resume.{IsImage, start_in}
+use Rattle.degradation.specs.declared.chosen.Chosen.{Chosen}
+use Rattle.catnap_top.proofs.ImageFiles.{image_long}
+use Rattle.catnap_top.proofs.ObjectFiles.{object_long}
 use Rattle.catnap_top.proofs.Looks.{Leads, by_leads, then_leads, comes_to_leads}
 
 abbrev pub front : List ℕ → List ℕ
@@ -116,6 +121,17 @@ failures_cut file = told_leads _ (fails_of (front file)) (fails_of file) (table_
 pub links_cut : (file : List ℕ) → Leads (links_in (front file)) (links_in file)
 links_cut file = told_leads _ (links_of (front file)) (links_of file) (table_cut _ _ _ file)
 
+-- ---- an object file, and a saved image
+
+pub object_cut : (file : List ℕ) → Leads (object_in (front file)) (object_in file)
+object_cut file =
+    by_leads fault.Object (IsObject (front file)) (IsObject file) (λ came. by_front (λ f. IsObject f came) file (λ lt more. object_long (front file) file came more lt))
+
+pub image_cut : (files : ReplayFiles) (chosen : Chosen) (file : List ℕ) → Leads (start_in files chosen (front file)) (start_in files chosen file)
+image_cut files chosen file =
+    by_leads fault.Image (IsImage files chosen (front file)) (IsImage files chosen file)
+    (λ came. by_front (λ f. IsImage files chosen f came) file (λ lt more. image_long files chosen file came lt))
+
 -- ---- the files of a replay
 
 pub files_cut : (s d t a f : List ℕ) → Leads (files_in (front s) (front d) (front t) (front a) (front f)) (files_in s d t a f)
@@ -161,6 +177,10 @@ looks_cut Replay files = then_leads _ _ _ _ (replay_files_cut files) (λ x came 
 looks_cut Plan files =
     then_leads _ _ _ _ (at_place program_in program_cut files 0) (λ p. then_leads _ _ _ _ (at_place device_in device_cut files 1) (λ d came h. h))
 looks_cut Image files = then_leads _ _ _ _ (replay_files_cut files) (λ x came h. h)
+looks_cut Resume files =
+    then_leads _ _ _ _ (replay_files_cut files)
+    (λ x. then_leads _ _ _ _ (λ came h. h) (λ c. then_leads _ _ _ _ (at_place (start_in x c) (image_cut x c) files 5) (λ start came h. h)))
+looks_cut (RunObject steps) files = then_leads _ _ _ _ (at_place object_in object_cut files 0) (λ o came h. h)
 looks_cut (Bench size) files = λ came h. h
 looks_cut Uplink files = then_leads _ _ _ _ (replay_files_cut files) (λ x. then_leads _ _ _ _ (at_place links_in links_cut files 5) (λ steps came h. h))
 

@@ -11,28 +11,35 @@ use Rattle.nv_memory.specs.Board.{State, image_by}
 use Rattle.nv_memory.specs.declared.entry.Entry.{Entry}
 use Rattle.nv_memory.specs.declared.layout.Layout.{Layout}
 use Rattle.reference_run.specs.Reference.{Moment}
-use Rattle.logged_runs.specs.Laws.{AgreesWithOne}
+use Rattle.logged_runs.specs.Laws.{AgreesWithOne, OwnRunsHandleArrivals}
 use Rattle.logged_runs.specs.Own.{AreServedOnce, IsEarlier, IsOwn, schedule_of}
 use Rattle.logged_runs.specs.Reference.{Setting}
 use Rattle.image_meaning.specs.Laws.{ImagesStandForOne}
 use Rattle.image_meaning.specs.Standing.{StandsFor}
-use Rattle.cn_scheduler.specs.Chunks.{Link, entries_of}
+use Rattle.checkpoint_slots.specs.declared.slot.Slot.{Slot}
+use Rattle.board_core.specs.Reached.{first_state}
+use Rattle.event_arrivals.specs.Counts.{AreCounted}
+use Rattle.event_arrivals.specs.Spaced.{AreSound}
+use Rattle.cn_scheduler.specs.Chunks.{IsLawful, Link, entries_of}
+use Rattle.cn_scheduler.specs.Point.{Work}
 use Rattle.cn_scheduler.specs.declared.choice.Choice.TheVariants.{Section}
 use Rattle.cn_scheduler.specs.InForce.{begins_by, floor_at, floor_in, in_force}
 use Rattle.cn_scheduler.specs.declared.plan.Plan.{Plan}
 use Rattle.cn_scheduler.specs.declared.plan.PlanRow.{PlanRow}
-use Rattle.lawful_timeline.specs.Claims.{AreAbove, HoldsThroughout, KeepsFloor, LawfulTimelinesHold}
-use Rattle.lawful_timeline.specs.Starting.{StartsBelong}
+use Rattle.lawful_timeline.specs.Claims.{AreAbove, Begins, HoldsThroughout, KeepsFloor, LawfulTimelinesHold}
+use Rattle.lawful_timeline.specs.Ending.{HasSaved}
 use Rattle.lawful_timeline.specs.Working.{IsSetUp, setting_of, versions_at, versions_in}
-use Rattle.timely_commits.specs.Timely.{FreshRunsAreOnTime}
+use Rattle.timely_commits.specs.Timely.{AreOnTime}
 use Rattle.cn_runtime.specs.Planned.{row_of}
-use Rattle.recovery.specs.Past.{image_at}
+use Rattle.recovery.specs.Past.{committed_at, image_at}
 use Rattle.catnap_top.specs.declared.files.ReplayFiles.{ReplayFiles}
 use Rattle.catnap_top.specs.Headline.{KeepsReserve, ShowsRun, past_in, run_of}
-use Rattle.catnap_top.specs.Lives.{Life, Lives, first_point}
+use Rattle.catnap_top.specs.Lives.{Goes, Life, start_point}
+use Rattle.catnap_top.proofs.Behind.{not_before}
+use Rattle.catnap_top.proofs.Ticks.{points_later}
 use Rattle.catnap_top.proofs.HeadlineDeadlines.{meets}
 use Rattle.catnap_top.proofs.HeadlineFiles.{PlanFacts}
-use Rattle.catnap_top.proofs.HeadlineText.{ReadsAgain, shows_text, boot-is, commit-is}
+use Rattle.catnap_top.proofs.HeadlineText.{ReadsAgain, told_text, shows_text, slot-is, boot-is, commit-is}
 
 -- ---- one row
 
@@ -73,44 +80,64 @@ record Stand (s : Setting) (l : Layout) (first : List ℕ) (timeline : List Entr
   earlier : (i j : ℕ) (m n : Moment) → i ≤ j → j ≤ length timeline → StandsFor l s.program (image_by (take i timeline) first) m
       → StandsFor l s.program (image_by (take j timeline) first) n → IsEarlier s m n
 
-module _ (again : ReadsAgain) (files : ReplayFiles) (chosen : Chosen) (life : Life) (lives : Lives files chosen life) (checked : IsChecked files.program)
-    (set_up : IsSetUp files.program lives.plan) (lawful : LawfulTimelinesHold files.program lives.plan) (starts : StartsBelong files.program lives.plan)
-    (facts : PlanFacts files chosen lives.plan) (on_time : FreshRunsAreOnTime) (one : ImagesStandForOne lives.plan.layout files.program)
-    (agrees : AgreesWithOne files.program chosen.versions files.arrivals) where
-  holds : HoldsThroughout files.program lives.plan (first_point files lives.plan.layout life.origin) lives.chunks
-  holds =
-      lawful.holds (first_point files lives.plan.layout life.origin) lives.chunks set_up
-      (starts.begins (first_point files lives.plan.layout life.origin) (record { fresh = lives.fresh; off = refl; clean = refl; work_is = refl })) lives.lawful
+module _ (again : ReadsAgain) (files : ReplayFiles) (chosen : Chosen) (begun : Layout → Work) (life : Life) (goes : Goes files chosen begun life) (checked : IsChecked files.program)
+    (set_up : IsSetUp files.program goes.plan) (lawful : LawfulTimelinesHold files.program goes.plan)
+    (begins : Begins files.program goes.plan (start_point life.origin (begun goes.plan.layout))) (saved : HasSaved files.program goes.plan (first_state life.origin))
+    (facts : PlanFacts files chosen goes.plan)
+    (on_time : AreOnTime files.program files.device facts.bounds goes.plan life.origin.tick (start_point life.origin (begun goes.plan.layout)) goes.chunks)
+    (one : ImagesStandForOne goes.plan.layout files.program) (agrees : AgreesWithOne files.program chosen.versions files.arrivals)
+    (sound : AreSound files.arrivals) (counted : AreCounted files.arrivals) (handled : OwnRunsHandleArrivals (run_of files chosen)) where
+  holds : HoldsThroughout files.program goes.plan (start_point life.origin (begun goes.plan.layout)) goes.chunks
+  holds = lawful.holds (start_point life.origin (begun goes.plan.layout)) goes.chunks set_up begins goes.lawful
 
-  setting_is : setting_of files.program lives.plan ≡ run_of files chosen
+  setting_is : setting_of files.program goes.plan ≡ run_of files chosen
   setting_is =
-      let versions : (t : ℕ) → versions_at lives.plan.rows t ≡ chosen.versions =
-      λ t. ap (λ (o : Option PlanRow). option_map_or versions_in o []) (row_at chosen lives.plan.rows t lives.is_plan.rows_are) in
-      λ i. record { program = files.program; versions = λ t. versions t i; arrivals = lives.is_plan.arrivals_are i }
+      let versions : (t : ℕ) → versions_at goes.plan.rows t ≡ chosen.versions =
+      λ t. ap (λ (o : Option PlanRow). option_map_or versions_in o []) (row_at chosen goes.plan.rows t goes.is_plan.rows_are) in
+      λ i. record { program = files.program; versions = λ t. versions t i; arrivals = goes.is_plan.arrivals_are i }
 
-  timeline_is : life.state.timeline ≡ entries_of lives.chunks
-  timeline_is = ap (λ (s : State). s.timeline) (sym lives.leads) ∙ holds.timeline
+  timeline_is : life.state.timeline ≡ entries_of goes.chunks
+  timeline_is = ap (λ (s : State). s.timeline) (sym goes.leads) ∙ holds.timeline
 
   stand : Stand (run_of files chosen) life.layout life.origin.image life.state.timeline
   stand =
       subst (λ (t : List Entry). Stand (run_of files chosen) life.layout life.origin.image t) (sym timeline_is)
-      (subst (λ (l : Layout). Stand (run_of files chosen) l life.origin.image (entries_of lives.chunks)) (sym lives.layout_is)
-      (subst (λ (s : Setting). Stand s lives.plan.layout life.origin.image (entries_of lives.chunks)) setting_is
+      (subst (λ (l : Layout). Stand (run_of files chosen) l life.origin.image (entries_of goes.chunks)) (sym goes.layout_is)
+      (subst (λ (s : Setting). Stand s goes.plan.layout life.origin.image (entries_of goes.chunks)) setting_is
       (record { images = holds.images; earlier = holds.earlier })))
 
-  pub shows_run : ShowsRun files chosen life lives
+  -- what the board began with stands for a run of its own
+  first_stands : StandsFor life.layout files.program life.origin.image saved.moment
+  first_stands = subst (λ (l : Layout). StandsFor l files.program life.origin.image saved.moment) (sym goes.layout_is) saved.stands
+
+  first_own : IsOwn (run_of files chosen) saved.moment
+  first_own = subst (λ (s : Setting). IsOwn s saved.moment) setting_is saved.own
+
+  first_many : length saved.moment.entries ≡ (committed_at (past_in life) 0).len
   unfolding image_at
-  shows_run =
+  first_many =
+      ap (λ (m : Moment). length m.entries) (sym first_stands.is) ∙ first_stands.committed.recorded.many
+      ∙ sym (ap (λ (s : Slot). s.len) (slot-is files.program (past_in life) 0 first_stands.value first_stands.committed))
+
+  pub shows_run : (from : ℕ) (text : List ℕ) → from ≡ (committed_at (past_in life) 0).len
+      → text ≡ told_text again files checked chosen life (ap (λ (l : Layout). l.words) goes.layout_is ∙ goes.is_plan.layout_is.words) from
+      → ShowsRun files chosen begun life goes from text
+  unfolding image_at
+  shows_run from text from_is text_is =
       let n : ℕ = length life.state.timeline in
+      let words : life.layout.words ≡ length files.program.words = ap (λ (l : Layout). l.words) goes.layout_is ∙ goes.is_plan.layout_is.words in
       let last = stand.images n (le_refl n) in
-      let stands : StandsFor lives.plan.layout files.program (image_by (entries_of lives.chunks) life.origin.image) last.0 =
-      subst (λ (l : Layout). StandsFor l files.program (image_by (entries_of lives.chunks) life.origin.image) last.0) lives.layout_is
+      let stands : StandsFor goes.plan.layout files.program (image_by (entries_of goes.chunks) life.origin.image) last.0 =
+      subst (λ (l : Layout). StandsFor l files.program (image_by (entries_of goes.chunks) life.origin.image) last.0) goes.layout_is
       (subst (λ (t : List Entry). StandsFor life.layout files.program (image_by t life.origin.image) last.0) (take-length life.state.timeline ∙ timeline_is) last.1) in
+      let many : length saved.moment.entries ≡ from = first_many ∙ sym from_is in
+      let first_earlier : IsEarlier (run_of files chosen) saved.moment last.0 = stand.earlier 0 n saved.moment last.0 (omega arith) (le_refl n) first_stands last.1 in
       record {
         final = last.0;
         reference = last.2;
         interpreted = (agrees.same (schedule_of last.0.entries last.0.steps) last.0).0 last.2;
-        text = shows_text again files checked chosen life (ap (λ (l : Layout). l.words) lives.layout_is ∙ lives.is_plan.layout_is.words) last.0 last.1;
+        text_is = text_is ∙ shows_text again files checked chosen life words from last.0 last.1;
+        start = record { moment = saved.moment; stands = first_stands; own = first_own; earlier = first_earlier; many = many };
         moments = λ k entry is.
             let within = slice_get_within life.state.timeline k entry is in
             let here = stand.images (k + 1) (omega (arith, within)) in
@@ -123,6 +150,13 @@ module _ (again : ReadsAgain) (files : ReplayFiles) (chosen : Chosen) (life : Li
               commit = λ left op done. commit-is files.program (past_in life) k entry here.0 is here.1 done left op;
             };
         once = last.3;
-        reserve = keeps chosen lives.plan lives.chunks lives.is_plan.rows_are holds.floor;
-        deadlines = meets files chosen life lives facts set_up on_time one holds setting_is timeline_is last.0 stands;
+        reserve = keeps chosen goes.plan goes.chunks goes.is_plan.rows_are holds.floor;
+        deadlines =
+            meets files chosen begun life goes facts on_time one holds setting_is timeline_is last.0 stands from
+            (λ event k place steps t arrival entry comes since.
+            subst (λ most. most ≤ place) many
+            (not_before (run_of files chosen) sound handled counted saved.moment first_own life.origin.tick saved.began last.0 event k place _ steps t arrival first_earlier.entries entry comes since))
+            (λ before after split.
+            points_later goes.plan (start_point life.origin (begun goes.plan.layout)) before after
+            (subst (λ (cs : List Link). IsLawful goes.plan (start_point life.origin (begun goes.plan.layout)) cs) split goes.lawful));
       }

@@ -26,14 +26,15 @@ use Rattle.nv_log.specs.Record.{record_bytes, record_of, entry_of, EntryFits, Is
 use Rattle.recovery.specs.Committed.{Committed, IsCommitted}
 use Rattle.reference_run.specs.Reference.{Moment}
 use Rattle.image_meaning.specs.Standing.{StandsFor, moment_of}
-use Rattle.cn_report.specs.Outcome.{end_line, log_line, log_text, record_line, variables_text}
-use Rattle.recovery.specs.Past.{Past, committed_at, done_at, end_of, entry_in, image_at, last_image, last_slot}
+use Rattle.cn_report.specs.Outcome.{end_line, known_at, log_line, log_text, record_line, variables_text}
+use Rattle.cn_report.specs.Whole.{resumed_text}
+use Rattle.recovery.specs.Past.{Past, committed_at, end_of, entry_in, image_at, last_image, last_slot}
 use Rattle.cn_base.specs.Texts.{in_turn, line}
 use Rattle.cn_report.specs.Report.{choice_text}
 use Rattle.cn_report.specs.Story.{done_line, dropped_text, entry_line, lost_line, moment_line, slot_line, story_text}
 use Rattle.catnap_top.specs.declared.files.ReplayFiles.{ReplayFiles}
 use Rattle.catnap_top.specs.Headline.{line_at, past_in, run_log, run_text, run_variables, words_in}
-use Rattle.catnap_top.specs.Lives.{Life, reported}
+use Rattle.catnap_top.specs.Lives.{Life}
 
 in_turn-same : (f g : ℕ → List ℕ) (n : ℕ) → ((k : ℕ) → k < n → f k ≡ g k) → in_turn f n ≡ in_turn g n
 in_turn-same f g zero same = refl
@@ -41,7 +42,7 @@ in_turn-same f g (suc n) same = λ i. in_turn-same f g n (λ k less. same k (ome
 
 -- ---- the slot that an image has committed
 
-slot-is : (program : Checked) (past : Past) (n : ℕ) (v : Committed) → IsCommitted past.layout program (image_at past n) v → committed_at past n ≡ v.slot
+pub slot-is : (program : Checked) (past : Past) (n : ℕ) (v : Committed) → IsCommitted past.layout program (image_at past n) v → committed_at past n ≡ v.slot
 unfolding committed_at
 slot-is program past n v committed = committed.slot_is
 
@@ -50,25 +51,25 @@ slot-is program past n v committed = committed.slot_is
 abbrev pub ReadsAgain : Type 0
 ReadsAgain = (l : Layout) (entry : LogEntry) → EntryFits entry → entry_of l (record_of l entry) ≡ entry
 
-log-is : ReadsAgain → (files : ReplayFiles) (past : Past) (v : Committed) → IsCommitted past.layout files.program (last_image past) v
-    → log_text files.program.headers files.arrivals past ≡ run_log files (done_at past) v.entries
+log-is : ReadsAgain → (files : ReplayFiles) (past : Past) (from : ℕ) (v : Committed) → IsCommitted past.layout files.program (last_image past) v
+    → log_text files.program.headers files.arrivals past from ≡ run_log files (known_at past from) v.entries
 unfolding record_line
-log-is again files past v committed =
+log-is again files past from v committed =
     let headers = files.program.headers in
     let lists = files.arrivals in
     let many : (last_slot past).len ≡ length v.entries =
     ap (λ (s : Slot). s.len) (slot-is files.program past (length past.timeline) v committed) ∙ sym committed.recorded.many in
     let each : (k : ℕ) → k < length v.entries
-    → record_line headers lists past k ≡ option_map_or (log_line headers lists (done_at past k)) (slice_get v.entries k) [] =
+    → record_line headers lists past from k ≡ option_map_or (log_line headers lists (known_at past from k)) (slice_get v.entries k) [] =
     λ k less.
     let e : LogEntry = get_or v.entries k (Out 0 (pos 0)) in
     let there : slice_get v.entries k ≡ Some e = slice_get-get_or v.entries k (Out 0 (pos 0)) less in
     let spelled : IsSpelled past.layout files.program (record_bytes past.layout k (last_image past)) e = committed.recorded.entries_are k e there in
     let same : entry_in past k ≡ e = ap (entry_of past.layout) spelled.bytes_are ∙ again past.layout e spelled.fits in
-    ap (log_line headers lists (done_at past k)) same ∙ sym (ap (λ (o : Option LogEntry). option_map_or (log_line headers lists (done_at past k)) o []) there)
+    ap (log_line headers lists (known_at past from k)) same ∙ sym (ap (λ (o : Option LogEntry). option_map_or (log_line headers lists (known_at past from k)) o []) there)
     in
-    ap (λ (n : ℕ). in_turn (record_line headers lists past) n) many
-    ∙ in_turn-same (record_line headers lists past) (λ k. option_map_or (log_line headers lists (done_at past k)) (slice_get v.entries k) []) (length v.entries) each
+    ap (λ (n : ℕ). in_turn (record_line headers lists past from) n) many
+    ∙ in_turn-same (record_line headers lists past from) (λ k. option_map_or (log_line headers lists (known_at past from k)) (slice_get v.entries k) []) (length v.entries) each
 
 -- ---- the variables
 
@@ -104,12 +105,16 @@ slot-words program l image v committed =
     ∙ length-range_with_len 3 l.words
 
 module _ (again : ReadsAgain) (files : ReplayFiles) (checked : IsChecked files.program) (chosen : Chosen) (life : Life)
-    (words : life.layout.words ≡ length files.program.words) where
-  shows_value : (v : Committed) → IsCommitted life.layout files.program (last_image (past_in life)) v → (reported files chosen life).text ≡ run_text files chosen life (moment_of v)
+    (words : life.layout.words ≡ length files.program.words) (from : ℕ) where
+  -- the text of its report
+  abbrev pub told_text : List ℕ
+  told_text = resumed_text files.program.headers files.program.variables chosen files.arrivals (past_in life) from life.state.tick life.state.stored life.end
+
+  shows_value : (v : Committed) → IsCommitted life.layout files.program (last_image (past_in life)) v → told_text ≡ run_text files chosen life from (moment_of v)
   shows_value v committed =
       let past = past_in life in
       let slot : last_slot past ≡ v.slot = slot-is files.program past (length past.timeline) v committed in
-      let log = log-is again files past v committed in
+      let log = log-is again files past from v committed in
       let size : length (variables_of v.slot) ≡ length files.program.words = slot-words files.program life.layout (last_image past) v committed ∙ words in
       let variables : variables_text (last_slot past) files.program.variables ≡ run_variables files.program.variables (variables_of v.slot) =
       ap (λ (s : Slot). variables_text s files.program.variables) slot
@@ -118,9 +123,8 @@ module _ (again : ReadsAgain) (files : ReplayFiles) (checked : IsChecked files.p
       ++ (dropped_text files.program.headers files.arrivals.dropped
       ++ (story_text past ++ (log i ++ (end_line life.state.tick life.state.stored (slot i).steps life.end ++ variables i))))
 
-  pub shows_text : (m : Moment) → StandsFor life.layout files.program (last_image (past_in life)) m → (reported files chosen life).text ≡ run_text files chosen life m
-  shows_text m stands =
-      subst (λ (n : Moment). (reported files chosen life).text ≡ run_text files chosen life n) stands.is (shows_value stands.value stands.committed)
+  pub shows_text : (m : Moment) → StandsFor life.layout files.program (last_image (past_in life)) m → told_text ≡ run_text files chosen life from m
+  shows_text m stands = subst (λ (n : Moment). told_text ≡ run_text files chosen life from n) stands.is (shows_value stands.value stands.committed)
 
 -- ---- a line of what happened
 

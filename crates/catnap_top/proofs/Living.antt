@@ -23,11 +23,12 @@ use Rattle.cn_scheduler.specs.declared.engine.End.{End}
 use Rattle.cn_scheduler.specs.declared.plan.Plan.{Plan}
 use Rattle.cn_scheduler.specs.declared.engine.Engine.{Engine}
 use Rattle.cn_scheduler.specs.EnginePoint.{point_of}
-use Rattle.cn_scheduler.specs.Point.{Point}
+use Rattle.cn_scheduler.specs.Point.{Point, Work}
 use Rattle.cn_scheduler.specs.Chunks.{entries_of}
 use Rattle.cn_runtime.specs.declared.refused.PrepareFault.{PrepareFault}
 use Rattle.cn_runtime.specs.declared.refused.PrepareFault.TheVariants as prepare
 use Rattle.lawful_timeline.specs.Claims.{IsReplayed}
+use Rattle.lawful_timeline.specs.Starting.{first_work}
 use Rattle.cn_runtime.specs.Planned.{IsChosenFor, IsPlanFor, IsPrepared, IsRefused}
 use Rattle.cn_runtime.specs.declared.prepared.Prepared.{Prepared}
 use Rattle.checkpoint_slots.specs.Slot.{IsMadeFor}
@@ -39,7 +40,7 @@ use Rattle.cn_report.specs.Whole.{IsReplayed as IsTold}
 use Rattle.catnap_top.specs.declared.files.ReplayFiles.{ReplayFiles}
 use Rattle.catnap_top.specs.declared.fault.NoChoice.TheVariants as none
 use Rattle.catnap_top.specs.Look.{Stops, fits, fails, goes}
-use Rattle.catnap_top.specs.Lives.{Life, Lives, first_point}
+use Rattle.catnap_top.specs.Lives.{Goes, Life, Lives, start_point}
 use Rattle.catnap_top.specs.Served.{versions_in, stop_of_replay}
 use Rattle.catnap_top.specs.declared.replay.Replayed.{Replayed}
 use Rattle.catnap_top.specs.Replay.{living}
@@ -60,28 +61,30 @@ chosen_in p d l chosen layout is =
 
 -- ---- the report
 
--- after the last entry the image stands for a run's moment, so it has committed a value
+-- at first and after the last entry the image stands for a run's moment, so it has committed a value
 pub told : (p : Checked) (plan : Plan) (start : Point) (end : End) (s : State) → IsReplayed p plan start end s → start.board.timeline ≡ []
-    → IsFresh p plan.layout start.board.image → IsTold p (record { layout = plan.layout; first = start.board.image; timeline = s.timeline })
+    → IsTold p (record { layout = plan.layout; first = start.board.image; timeline = s.timeline })
 unfolding image_at
-told p plan start end s is none fresh =
+told p plan start end s is none =
     let es : List Entry = entries_of is.chunks in
     let whole : s.timeline ≡ es = ap (λ (t : State). t.timeline) (sym is.leads) ∙ is.holds.timeline ∙ ap (λ (t : List Entry). t ++ es) none in
+    let begun = is.holds.images 0 (omega arith) in
     let last = is.holds.images (length es) (le_refl _) in
     record {
-      fresh = fresh;
+      begun = begun.1.value;
+      is_begun = begun.1.committed;
       value = last.1.value;
       committed = subst (λ image. IsCommitted plan.layout p image last.1.value)
           (sym (ap (λ (t : List Entry). image_by (take (length t) t) start.board.image) whole)) last.1.committed;
     }
 
--- a lawful timeline that a board came to by its rules is the life that the files call for
-pub lives : (files : ReplayFiles) (chosen : Chosen) (plan : Plan) (origin : ModelOrigin) (start : Point) (end : End) (s : State)
+-- a lawful timeline that a board came to by its rules is one of what the files call for
+pub goes_as : (files : ReplayFiles) (chosen : Chosen) (plan : Plan) (origin : ModelOrigin) (begun : Layout → Work) (start : Point) (end : End) (s : State)
     → IsPlanFor files.program files.device files.arrivals chosen plan → origin.trace ≡ files.trace → origin.fails ≡ files.failures → origin.device ≡ files.device
-    → origin.tick ≡ 0 → origin.stored ≡ files.device.start → IsFresh files.program plan.layout origin.image → start ≡ first_point files plan.layout origin
-    → IsReplayed files.program plan start end s → IsReached origin s → Lives files chosen (record { layout = plan.layout; origin = origin; state = s; end = end })
-lives files chosen plan origin start end s is_plan trace failing device tick stored fresh first is reached =
-    let is' : IsReplayed files.program plan (first_point files plan.layout origin) end s = subst (λ (p : Point). IsReplayed files.program plan p end s) first is in
+    → start ≡ start_point origin (begun plan.layout) → IsReplayed files.program plan start end s → IsReached origin s
+    → Goes files chosen begun (record { layout = plan.layout; origin = origin; state = s; end = end })
+goes_as files chosen plan origin begun start end s is_plan trace failing device first is reached =
+    let is' : IsReplayed files.program plan (start_point origin (begun plan.layout)) end s = subst (λ (p : Point). IsReplayed files.program plan p end s) first is in
     record {
       plan = plan;
       is_plan = is_plan;
@@ -89,9 +92,6 @@ lives files chosen plan origin start end s is_plan trace failing device tick sto
       trace_is = trace;
       fails_are = failing;
       device_is = device;
-      at_first = tick;
-      stored_is = stored;
-      fresh = fresh;
       chunks = is'.chunks;
       lawful = is'.lawful;
       leads = is'.leads;
@@ -106,7 +106,7 @@ module _ (files : ReplayFiles) (before : Prepared) (engine : Engine) (o0 : Model
     (trace : o0.trace ≡ files.trace) (failing : o0.fails ≡ files.failures) (device : o0.device ≡ files.device) (tick : o0.tick ≡ 0) (stored : o0.stored ≡ files.device.start)
     (fresh : IsFresh before.program before.plan.layout o0.image) (replayed : IsReplayed before.program before.plan (point_of before.engine s0) end (state_of board))
     (reached : IsReached (origin_of board) (state_of board)) (made : IsMadeFor before.plan.layout shadow.slot) where
-  first : point_of before.engine s0 ≡ first_point files before.plan.layout (origin_of board)
+  first : point_of before.engine s0 ≡ start_point (origin_of board) (first_work files.program before.plan.layout)
   first =
       let board_is : s0 ≡ first_state (origin_of board) = begins ∙ ap first_state (sym same) in
       λ i. record { board = board_is i; work = is.first.work i; dirty = is.first.clean i }
@@ -121,9 +121,14 @@ module _ (files : ReplayFiles) (before : Prepared) (engine : Engine) (o0 : Model
 
   one_life : Lives files before.chosen (record { layout = before.plan.layout; origin = origin_of board; state = state_of board; end = end })
   one_life =
-      lives files before.chosen before.plan (origin_of board) (point_of before.engine s0) end (state_of board) is.plan
-      (ap (λ (o : ModelOrigin). o.trace) same ∙ trace) (ap (λ (o : ModelOrigin). o.fails) same ∙ failing) (ap (λ (o : ModelOrigin). o.device) same ∙ device)
-      (ap (λ (o : ModelOrigin). o.tick) same ∙ tick) (ap (λ (o : ModelOrigin). o.stored) same ∙ stored) fresh' first replayed' reached
+      record {
+        goes = goes_as files before.chosen before.plan (origin_of board) (first_work files.program) (point_of before.engine s0) end (state_of board) is.plan
+            (ap (λ (o : ModelOrigin). o.trace) same ∙ trace) (ap (λ (o : ModelOrigin). o.fails) same ∙ failing) (ap (λ (o : ModelOrigin). o.device) same ∙ device)
+            first replayed' reached;
+        at_first = ap (λ (o : ModelOrigin). o.tick) same ∙ tick;
+        stored_is = ap (λ (o : ModelOrigin). o.stored) same ∙ stored;
+        fresh = fresh';
+      }
 
   pub looks : living files (Ok (lived_of (record { prepared = record before { engine = engine }; board = board; end = end; shadow = shadow })))
   looks =
@@ -144,9 +149,10 @@ module _ (files : ReplayFiles) (before : Prepared) (engine : Engine) (o0 : Model
       record {
         suits = subst (λ (p : Checked). Suits p before.chosen) back is.chosen.suits;
         events = is.set_up.plan_is.queue ∙ ap (λ (p : Checked). length p.events) back;
+        fresh = subst (λ (p : Checked). IsFresh p before.plan.layout (origin_of board).image) back fresh';
         replayed = subst (λ (p : Checked). IsTold p (past_of before.plan.layout (model_start (origin_of board)) (state_of board))) back
-            (told files.program before.plan (first_point files before.plan.layout (origin_of board)) end (state_of board)
-            (subst (λ (p : Point). IsReplayed files.program before.plan p end (state_of board)) first replayed') refl fresh');
+            (told files.program before.plan (start_point (origin_of board) (first_work files.program before.plan.layout)) end (state_of board)
+            (subst (λ (p : Point). IsReplayed files.program before.plan p end (state_of board)) first replayed') refl);
         made = made;
       }
 

@@ -8,6 +8,7 @@ use Rattle.harvest_trace.specs.Timeline.{life_of}
 use Rattle.nv_memory.specs.Board.{State}
 use Rattle.nv_memory.specs.Laws.{LayoutsAreNumbers}
 use Rattle.nv_memory.specs.declared.device.Device.{Device}
+use Rattle.nv_memory.specs.declared.layout.Layout.{Layout}
 use Rattle.recovery.specs.First.{IsFresh}
 use Rattle.recovery.specs.Laws.{FirstImageIsOne}
 use Rattle.event_arrivals.specs.Arrivals.{Lists}
@@ -19,13 +20,15 @@ use Rattle.cn_scheduler.specs.declared.engine.Chunk.{Chunk}
 use Rattle.cn_scheduler.specs.declared.engine.End.{End}
 use Rattle.cn_scheduler.specs.declared.engine.End.TheVariants.{TraceEnded, LogFull}
 use Rattle.cn_scheduler.specs.Chunks.{is_last}
-use Rattle.lawful_timeline.specs.Claims.{EndsAs, last_outcome}
-use Rattle.lawful_timeline.specs.Starting.{StartsBelong}
+use Rattle.cn_scheduler.specs.Point.{Point, Work}
+use Rattle.lawful_timeline.specs.Claims.{Begins, EndsAs, last_outcome}
+use Rattle.lawful_timeline.specs.Starting.{StartsBelong, first_work}
 use Rattle.lawful_timeline.specs.Working.{IsSetUp}
 use Rattle.one_timeline.specs.One.{EndsAlike, HasEnded}
 use Rattle.cn_runtime.specs.Planned.{IsPlanFor}
 use Rattle.catnap_top.specs.declared.files.ReplayFiles.{ReplayFiles}
-use Rattle.catnap_top.specs.Lives.{Life, Lives, first_point}
+use Rattle.catnap_top.specs.Lives.{Goes, Life, Lives, start_point}
+use Rattle.catnap_top.specs.Resume.{GoesOn, Start, committed_work}
 
 -- what the layers below promise of layouts, first images, boards and timelines
 pub record OneLaws : Type 0 where
@@ -81,34 +84,51 @@ module _ (laws : OneLaws) where
 
   -- ---- one life
 
-  module _ (files : ReplayFiles) (chosen : Chosen) (a b : Life) (x : Lives files chosen a) (y : Lives files chosen b) where
-    plans : x.plan ≡ y.plan
-    plans = plan_one files.program files.device files.arrivals chosen x.plan y.plan x.is_plan y.is_plan
+  abbrev EndedAt : Plan → ModelOrigin → Work → Chunk → State → Type 0
+  EndedAt plan origin work outcome state = HasEnded plan origin (start_point origin work) outcome state
 
-    images : a.origin.image ≡ b.origin.image
-    images = laws.images files.program x.plan.layout a.origin.image b.origin.image x.fresh (subst (λ (plan : Plan). IsFresh files.program plan.layout b.origin.image) (sym plans) y.fresh)
+  module _ (files : ReplayFiles) (chosen : Chosen) (begun : Layout → Work) where
+    ended_at : (life : Life) (x : Goes files chosen begun life) → EndedAt x.plan life.origin (begun x.plan.layout) (last_outcome x.chunks) life.state
+    ended_at life x = record { chunks = x.chunks; lawful = x.lawful; leads = x.leads; ends = refl; last = end_last life.end (last_outcome x.chunks) x.ends; reached = x.reached }
 
-    origins : a.origin ≡ b.origin
-    origins =
-        origin_one a.origin b.origin (x.trace_is ∙ sym y.trace_is) (x.fails_are ∙ sym y.fails_are) (x.device_is ∙ sym y.device_is) (x.at_first ∙ sym y.at_first) (x.stored_is ∙ sym y.stored_is) images
+    plans : (a b : Life) (x : Goes files chosen begun a) (y : Goes files chosen begun b) → x.plan ≡ y.plan
+    plans a b x y = plan_one files.program files.device files.arrivals chosen x.plan y.plan x.is_plan y.is_plan
 
-  abbrev EndedAt : ReplayFiles → Plan → ModelOrigin → Chunk → State → Type 0
-  EndedAt files plan origin outcome state = HasEnded plan origin (first_point files plan.layout origin) outcome state
-
-  ended_at : (files : ReplayFiles) (chosen : Chosen) (life : Life) (x : Lives files chosen life) → EndedAt files x.plan life.origin (last_outcome x.chunks) life.state
-  ended_at files chosen life x = record { chunks = x.chunks; lawful = x.lawful; leads = x.leads; ends = refl; last = end_last life.end (last_outcome x.chunks) x.ends; reached = x.reached }
+    -- from one board, and one working value from which it begins
+    goes_one : (a b : Life) (x : Goes files chosen begun a) (y : Goes files chosen begun b) → ((plan : Plan) → IsPlanFor files.program files.device files.arrivals chosen plan → IsSetUp files.program plan)
+        → a.origin ≡ b.origin → Begins files.program x.plan (start_point a.origin (begun x.plan.layout)) → a ≡ b
+    goes_one a b x y set_up origin begins =
+        let plan = plans a b x y in
+        let other : EndedAt x.plan a.origin (begun x.plan.layout) (last_outcome y.chunks) b.state =
+        subst (λ (o : ModelOrigin). EndedAt x.plan o (begun x.plan.layout) (last_outcome y.chunks) b.state) (sym origin)
+        (subst (λ (p : Plan). EndedAt p b.origin (begun p.layout) (last_outcome y.chunks) b.state) (sym plan) (ended_at b y)) in
+        let p = start_point a.origin (begun x.plan.layout) in
+        let same = laws.ends files.program x.plan a.origin p (last_outcome x.chunks) (last_outcome y.chunks) a.state b.state (set_up x.plan x.is_plan) begins (laws.rules a.origin).first (ended_at a x) other in
+        let layout : a.layout ≡ b.layout = x.layout_is ∙ ap (λ (p : Plan). p.layout) plan ∙ sym y.layout_is in
+        let end : a.end ≡ b.end = end_same a.end b.end (last_outcome x.chunks) (last_outcome y.chunks) same.0 x.ends y.ends in
+        λ i. record { layout = layout i; origin = origin i; state = same.1 i; end = end i }
 
   pub life_one : (files : ReplayFiles) (chosen : Chosen) (a b : Life) → ((plan : Plan) → IsPlanFor files.program files.device files.arrivals chosen plan → IsSetUp files.program plan)
       → Lives files chosen a → Lives files chosen b → a ≡ b
-  life_one files chosen a b set_up x y =
-      let plan = plans files chosen a b x y in
-      let origin = origins files chosen a b x y in
-      let other : EndedAt files x.plan a.origin (last_outcome y.chunks) b.state =
-      subst (λ (o : ModelOrigin). EndedAt files x.plan o (last_outcome y.chunks) b.state) (sym origin)
-      (subst (λ (p : Plan). EndedAt files p b.origin (last_outcome y.chunks) b.state) (sym plan) (ended_at files chosen b y)) in
-      let p = first_point files x.plan.layout a.origin in
-      let begins = (laws.starts files.program x.plan).begins p (record { fresh = x.fresh; off = refl; clean = refl; work_is = refl }) in
-      let same = laws.ends files.program x.plan a.origin p (last_outcome x.chunks) (last_outcome y.chunks) a.state b.state (set_up x.plan x.is_plan) begins (laws.rules a.origin).first (ended_at files chosen a x) other in
-      let layout : a.layout ≡ b.layout = x.layout_is ∙ ap (λ (p : Plan). p.layout) plan ∙ sym y.layout_is in
-      let end : a.end ≡ b.end = end_same a.end b.end (last_outcome x.chunks) (last_outcome y.chunks) same.0 x.ends y.ends in
-      λ i. record { layout = layout i; origin = origin i; state = same.1 i; end = end i }
+  life_one files chosen a b set_up h k =
+      let x = h.goes in
+      let y = k.goes in
+      let plan : x.plan ≡ y.plan = plans files chosen (first_work files.program) a b x y in
+      let image : a.origin.image ≡ b.origin.image =
+      laws.images files.program x.plan.layout a.origin.image b.origin.image h.fresh (subst (λ (p : Plan). IsFresh files.program p.layout b.origin.image) (sym plan) k.fresh) in
+      let origin : a.origin ≡ b.origin =
+      origin_one a.origin b.origin (x.trace_is ∙ sym y.trace_is) (x.fails_are ∙ sym y.fails_are) (x.device_is ∙ sym y.device_is) (h.at_first ∙ sym k.at_first) (h.stored_is ∙ sym k.stored_is) image in
+      let p = start_point a.origin (first_work files.program x.plan.layout) in
+      let begins = (laws.starts files.program x.plan).begins p (record { fresh = h.fresh; off = refl; clean = refl; work_is = refl }) in
+      goes_one files chosen (first_work files.program) a b x y set_up origin begins
+
+  -- a life that goes on from what was saved
+  pub rest_one : (files : ReplayFiles) (chosen : Chosen) (start : Start) (a b : Life) → ((plan : Plan) → IsPlanFor files.program files.device files.arrivals chosen plan → IsSetUp files.program plan)
+      → ((goes : GoesOn files chosen start a) → Begins files.program goes.goes.plan (start_point a.origin (committed_work start.image goes.goes.plan.layout)))
+      → GoesOn files chosen start a → GoesOn files chosen start b → a ≡ b
+  rest_one files chosen start a b set_up begins h k =
+      let x = h.goes in
+      let y = k.goes in
+      let origin : a.origin ≡ b.origin =
+      origin_one a.origin b.origin (x.trace_is ∙ sym y.trace_is) (x.fails_are ∙ sym y.fails_are) (x.device_is ∙ sym y.device_is) (h.tick_is ∙ sym k.tick_is) (h.stored_is ∙ sym k.stored_is) (h.image_is ∙ sym k.image_is) in
+      goes_one files chosen (committed_work start.image) a b x y set_up origin (begins h)

@@ -1,5 +1,5 @@
 -- Files that tell the same call for the same lives, and the same is told of them.
-use Rattle.std.proofs.Common.{◌≡◌, ℕ, false, List, length, map, None, replicate, sym, ap, ◌∙◌, subst}
+use Rattle.std.proofs.Common.{◌≡◌, ℕ, false, List, length, map, None, replicate, refl, sym, ap, ◌∙◌, subst}
 use Rattle.cat_program.specs.declared.headers.Event.{Event}
 use Rattle.cat_program.specs.Checked.{Checked}
 use Rattle.cat_machine.specs.Code.{code_of}
@@ -11,15 +11,17 @@ use Rattle.degradation.specs.declared.chosen.Chosen.{Chosen}
 use Rattle.board_core.specs.declared.origin.ModelOrigin.{ModelOrigin}
 use Rattle.board_core.specs.Reached.{first_state, model_start}
 use Rattle.cn_scheduler.specs.declared.plan.Plan.{Plan}
-use Rattle.cn_scheduler.specs.Point.{Point}
+use Rattle.cn_scheduler.specs.Point.{Point, Work}
+use Rattle.lawful_timeline.specs.Starting.{first_work}
 use Rattle.cn_scheduler.specs.Chunks.{IsLawful, point_after}
 use Rattle.cn_runtime.specs.Planned.{IsPlanFor}
 use Rattle.recovery.specs.Past.{past_of}
-use Rattle.cn_report.specs.Whole.{report_text}
+use Rattle.cn_report.specs.Whole.{report_text, resumed_text}
 use Rattle.same_program.specs.Same.{IsSame}
 use Rattle.catnap_top.specs.declared.files.ReplayFiles.{ReplayFiles}
 use Rattle.catnap_top.specs.Alike.{Agree, AreSameFiles, AreSameLived}
-use Rattle.catnap_top.specs.Lives.{Life, Lived, Lives, first_point, reported, status_of}
+use Rattle.catnap_top.specs.Lives.{Goes, Life, Lived, Lives, reported, start_point, status_of}
+use Rattle.catnap_top.specs.Resume.{GoesOn, Start, committed_work, going_on, past_since, rest_reported, told_before}
 use Rattle.catnap_top.specs.Replay.{life_in}
 use Rattle.cn_resume.specs.Saved.{saved_bytes}
 use Rattle.catnap_top.specs.Image.{saved}
@@ -75,18 +77,10 @@ module _ (code : SameCode) (x y : ReplayFiles) (same : AreSameFiles x y) where
         };
       }
 
-  first_same : (l : Layout) (origin : ModelOrigin) → first_point x l origin ≡ first_point y l origin
-  first_same l origin =
-      let alike = same.program.same in
-      λ i. record {
-        board = first_state origin;
-        work = record { words = alike.words i; posts = alike.started i; place = None; len = 0; steps = 0; done = replicate l.events 0 };
-        dirty = false;
-      }
-
-  lives_same : (c : Chosen) (life : Life) → Lives x c life → Lives y c life
-  lives_same c life is =
-      let first = first_same is.plan.layout life.origin in
+  -- from one working value
+  goes_same : (c : Chosen) (begun after : Layout → Work) (life : Life) → begun ≡ after → Goes x c begun life → Goes y c after life
+  goes_same c begun after life equal is =
+      let first : start_point life.origin (begun is.plan.layout) ≡ start_point life.origin (after is.plan.layout) = ap (λ (f : Layout → Work). start_point life.origin (f is.plan.layout)) equal in
       record {
         plan = is.plan;
         is_plan = plan_same c is.plan is.is_plan;
@@ -94,9 +88,6 @@ module _ (code : SameCode) (x y : ReplayFiles) (same : AreSameFiles x y) where
         trace_is = is.trace_is ∙ same.trace;
         fails_are = is.fails_are ∙ same.failures;
         device_is = is.device_is ∙ same.device;
-        at_first = is.at_first;
-        stored_is = is.stored_is ∙ ap (λ (d : Device). d.start) same.device;
-        fresh = fresh_same is.plan.layout life.origin.image is.fresh;
         chunks = is.chunks;
         lawful = subst (λ (p : Point). IsLawful is.plan p is.chunks) first is.lawful;
         leads = subst (λ (p : Point). (point_after p is.chunks).board ≡ life.state) first is.leads;
@@ -104,11 +95,41 @@ module _ (code : SameCode) (x y : ReplayFiles) (same : AreSameFiles x y) where
         reached = is.reached;
       }
 
+  first_same : first_work x.program ≡ first_work y.program
+  first_same =
+      let alike = same.program.same in
+      λ i l. record { words = alike.words i; posts = alike.started i; place = None; len = 0; steps = 0; done = replicate l.events 0 }
+
+  lives_same : (c : Chosen) (life : Life) → Lives x c life → Lives y c life
+  lives_same c life is =
+      record {
+        goes = goes_same c (first_work x.program) (first_work y.program) life first_same is.goes;
+        at_first = is.at_first;
+        stored_is = is.stored_is ∙ ap (λ (d : Device). d.start) same.device;
+        fresh = fresh_same is.goes.plan.layout life.origin.image is.fresh;
+      }
+
+  rest_same : (c : Chosen) (start : Start) (life : Life) → GoesOn x c start life → GoesOn y c start life
+  rest_same c start life is =
+      record {
+        goes = goes_same c (committed_work start.image) (committed_work start.image) life refl is.goes;
+        tick_is = is.tick_is;
+        stored_is = is.stored_is;
+        image_is = is.image_is;
+      }
+
   -- where there is one life
   pub life_agrees : (c e : Chosen) → ((a b : Life) → Lives y c a → Lives y c b → a ≡ b) → c ≡ e → Agree (λ (a b : Life). a ≡ b) (life_in x c) (life_in y e)
   life_agrees c e one equal =
       finding_agree (λ (a b : Life). a ≡ b) (Lives x c) (Lives y e)
       (λ a b h k. one a b (lives_same c a h) (subst (λ (v : Chosen). Lives y v b) (sym equal) k))
+
+  -- so it is where a life goes on
+  pub rest_agrees : (c e : Chosen) (start after : Start) → ((a b : Life) → GoesOn y c start a → GoesOn y c start b → a ≡ b) → c ≡ e → start ≡ after
+      → Agree (λ (a b : Life). a ≡ b) (going_on x c start) (going_on y e after)
+  rest_agrees c e start after one equal begun =
+      finding_agree (λ (a b : Life). a ≡ b) (GoesOn x c start) (GoesOn y e after)
+      (λ a b h k. one a b (rest_same c start a h) (subst (λ (v : Chosen). GoesOn y v start b) (sym equal) (subst (λ (from : Start). GoesOn y e from b) (sym begun) k)))
 
 -- ---- what is told of a life
 
@@ -136,4 +157,14 @@ summed_same size a b same =
       status = status_of (life i).end;
       text = summary_text size (life i).state.tick (tally_of (headers i) (arrivals i) (past_of (life i).layout (model_start (life i).origin) (life i).state))
           (life i).state.stored (life i).end;
+    }
+
+pub rest_reported_same : (x y : ReplayFiles) (c e : Chosen) (a b : Life) → AreSameFiles x y → c ≡ e → a ≡ b → rest_reported x c a ≡ rest_reported y e b
+rest_reported_same x y c e a b same chosen life =
+    let alike = same.program.same in
+    let arrivals = same.arrivals in
+    λ i. record {
+      status = status_of (life i).end;
+      text = resumed_text (alike.headers i) (alike.variables i) (chosen i) (arrivals i) (past_since (life i)) (told_before (life i))
+          (life i).state.tick (life i).state.stored (life i).end;
     }

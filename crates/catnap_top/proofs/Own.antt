@@ -1,7 +1,7 @@
 -- The statuses that words and files call for are none of the four that have causes of their own.
 use Rattle.std.proofs.Common.{◌≡◌, ℕ, List, Result, Ok, Err, true, refl, sym, subst}
 use Rattle.catnap_words.specs.declared.form.Form.{Form}
-use Rattle.catnap_words.specs.declared.form.Form.TheVariants.{Run, List as Listing, Check, Plan, Replay, Image, Uplink, Object, Bench}
+use Rattle.catnap_words.specs.declared.form.Form.TheVariants.{Run, List as Listing, Check, Plan, Replay, Image, Resume, Uplink, Object, RunObject, Bench}
 use Rattle.catnap_top.specs.declared.fault.Fault.{Fault}
 use Rattle.catnap_top.specs.declared.fault.Fault.TheVariants as fault
 use Rattle.catnap_top.specs.declared.fault.Table.TheVariants as table
@@ -27,6 +27,8 @@ fault_own (fault.Table table.Fails row kind) = refl
 fault_own (fault.Table table.Link row kind) = refl
 fault_own (fault.Choice (none.Window spacing)) = refl
 fault_own (fault.Choice (none.Rejected verdict)) = refl
+fault_own (fault.Image bad) = refl
+fault_own (fault.Object bad) = refl
 
 came_own : (look : Look Answer) (came : Result Answer Fault) → Finds IsOwn look → look came → IsOwn (answer_of came)
 came_own look (Ok answer) finds is = finds (Ok answer) is answer refl
@@ -42,6 +44,9 @@ looks_own Listing files = then_finds IsOwn _ _ (λ p. found_finds IsOwn _ refl)
 looks_own Object files = then_finds IsOwn _ _ (λ p. found_finds IsOwn _ refl)
 looks_own Replay files = then_finds IsOwn _ _ (λ files. then_finds IsOwn _ _ (λ lived. found_finds IsOwn _ (end_own lived.life.end)))
 looks_own Image files = then_finds IsOwn _ _ (λ files. then_finds IsOwn _ _ (λ lived. found_finds IsOwn _ (end_own lived.life.end)))
+looks_own Resume files =
+    then_finds IsOwn _ _ (λ told. then_finds IsOwn _ _ (λ chosen. then_finds IsOwn _ _ (λ start. then_finds IsOwn _ _ (λ life. found_finds IsOwn _ (end_own life.end)))))
+looks_own (RunObject steps) files = then_finds IsOwn _ _ (λ object. found_finds IsOwn _ refl)
 looks_own (Bench size) files = then_finds IsOwn _ _ (λ made. then_finds IsOwn _ _ (λ lived. found_finds IsOwn _ (end_own lived.life.end)))
 looks_own Uplink files =
     then_finds IsOwn _ _ (λ told. then_finds IsOwn _ _ (λ steps. then_finds IsOwn _ _ (λ lived. then_finds IsOwn _ _ (λ text. found_finds IsOwn _ (end_own lived.life.end)))))

@@ -1,5 +1,5 @@
 -- So many sections of an object, from a working state between two sections, and the answer that they give.
-use Rattle.object_runs.specs.Runs.{IsAtRest, IsRunnable}
+use Rattle.object_runs.specs.Resting.{IsAtRest, IsRunnable}
 use Rattle.catnap_top.specs.declared.loaded.Loaded.{Loaded}
 use Rattle.catnap_top.specs.declared.status.Status.TheVariants.{Done}
 use Rattle.catnap_top.specs.Answer.{Answer}

@@ -40,6 +40,7 @@ replayed_answer r = reported (lived_of r).files (lived_of r).chosen (lived_of r)
 pub record IsReadyToTell (r : Replayed) : Type 0 where
   pub suits : Suits r.prepared.program r.prepared.chosen
   pub events : length r.prepared.plan.queue.arrivals.timings ≡ length r.prepared.program.events
+  pub fresh : IsFresh r.prepared.program r.prepared.plan.layout (origin_of r.board).image
   pub replayed : IsReplayed r.prepared.program (past_of r.prepared.plan.layout (model_start (origin_of r.board)) (state_of r.board))
   pub made : IsMadeFor r.prepared.plan.layout r.shadow.slot
 

@@ -4,7 +4,7 @@ ghost use Rattle.std.specs.Prelude.{◌≡◌, IfOk};
 ghost use Rattle.cn_base.specs.Causes.{HasCause};
 ghost use Rattle.cn_base.specs.PageWords.{AddsTo, sink_in, sink_name};
 ghost use Rattle.cn_base.specs.Writing.{Writes};
-ghost use Rattle.object_runs.specs.Runs.{IsAtRest, IsRunnable};
+ghost use Rattle.object_runs.specs.Resting.{IsAtRest, IsRunnable};
 ghost use Rattle.catnap_top.specs.Look.{Looks, LooksAs};
 ghost use Rattle.catnap_top.specs.Run.{run_text};
 ghost use Rattle.catnap_top.specs.RunObject.{object_in, running_object, section_answers};
@@ -71,7 +71,7 @@ pub fn write_sections<K: Sink>(sink: &mut K, loaded: Loaded) -> Result<(), Write
 
 /// The object of a file, or the lowest rule that it breaks.
 fn object_of(alloc: Global, bytes: &[u8]) -> Result<Object, Stop>
-    ensures { Looks (object_in bytes.now) result }
+    ensures looks { Looks (object_in bytes.now) result }
     ensures runnable { IfOk result IsRunnable }
 {
     match verify(alloc, bytes) {

@@ -4,7 +4,7 @@ use Rattle.cn_uplink.specs.Link.{first}
 use Rattle.catnap_top.proofs.uplink.world_of.Goals as goal
 
 pub committed_log-requires-clause-fresh : goal.committed_log-requires-clause-fresh
-committed_log-requires-clause-fresh c = c.requires.ready.replayed.fresh
+committed_log-requires-clause-fresh c = c.requires.ready.fresh
 
 pub committed_log-requires-clause-committed : goal.committed_log-requires-clause-committed
 committed_log-requires-clause-committed c = record { value = c.requires.ready.replayed.value; is = c.requires.ready.replayed.committed }
