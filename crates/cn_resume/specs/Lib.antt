@@ -1,1 +1,4 @@
+pub mod Fit
+pub mod Places
+pub mod Records
 pub mod Saved

@@ -1,10 +1,20 @@
 //! Saved images: what a device holds when a life ends, as a file from which it can go on.
 #![tactic(auto)]
 
+mod accepting;
+mod fault;
+mod head;
+mod places;
+mod records;
+mod rerun;
+mod rest;
+mod saved;
 mod saving;
-
-
-pub use saving::write_saved;
-
+mod sizes;
 #[cfg(test)]
 mod tests;
+
+pub use accepting::accept;
+pub use fault::{ImageFault, ImageKind};
+pub use saved::Saved;
+pub use saving::write_saved;
