@@ -5,7 +5,7 @@ ghost use Rattle.cat_program.specs.Body.{Empty, with_stmt, tree_of};
 ghost use Rattle.cat_program.specs.Places.{body_size, expr_size};
 ghost use Rattle.cat_program.specs.Checked.{EachLower, NamesLower};
 
-use cat_program::{Expr, Program, Stmt};
+use cat_program::{Expr, Program, Stmt, blocks_law};
 
 /// The places of an expression's code.
 pub(crate) fn expr_size(e: &Expr) -> u32
@@ -36,6 +36,7 @@ pub(crate) fn block_size(program: &Program, b: u32) -> u32
     requires short { body_size (tree_of program.now.blocks b) ≤ 60000 }
     ensures { result ≡ body_size (tree_of program.now.blocks b) }
 {
+    blocks_law();
     let statements = program.block(b);
     let mut size = 0;
     for stmt in statements {
