@@ -1,7 +1,12 @@
+pub mod Finding
+pub mod Following
 pub mod Frames
+pub mod Items
 pub mod Marks
 pub mod Order
 pub mod Parts
+pub mod Recorded
 pub mod Rows
 pub mod Sizing
+pub mod Stepping
 pub mod Taken

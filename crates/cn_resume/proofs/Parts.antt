@@ -63,6 +63,17 @@ module _ (f : ℕ → Body) (b n : ℕ) where
   stmt_depth (While test body) rest = omega arith
   stmt_depth (Repeat count body) rest = omega arith
 
+-- a statement has a place at least
+pub stmt_some : (f : ℕ → Body) (s : Stmt) → 1 ≤ body_size (one f s)
+stmt_some f (Set word value) = omega arith
+stmt_some f (SetAt base len index value) = omega arith
+stmt_some f (Out channel value) = omega arith
+stmt_some f (Post task) = omega arith
+stmt_some f (If test on None) = omega arith
+stmt_some f (If test on (Some off)) = omega arith
+stmt_some f (While test body) = omega arith
+stmt_some f (Repeat count body) = omega arith
+
 -- a body has a depth, so no more than 31 frames stand below another
 pub depth_some : (k : Body) → 1 ≤ depth_of k
 depth_some Empty = omega arith
