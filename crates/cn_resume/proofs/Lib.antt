@@ -8,5 +8,6 @@ pub mod Parts
 pub mod Recorded
 pub mod Rows
 pub mod Sizing
+pub mod Staging
 pub mod Stepping
 pub mod Taken

@@ -58,4 +58,4 @@ said_moment slot entries current =
 pub data RunFault (s : Setting) (schedule : Schedule) (said : Moment) : ImageFault → Type 0 where
   NoRun : (at : ℕ) → HasFault s schedule at → RunFault s schedule said (BadImage kinds.Schedule at)
   OtherEnd : (at : ℕ) (end : Moment) → IsReference s schedule end → EndsOtherwise end said at → RunFault s schedule said (BadImage kinds.State at)
-  NoRoom : RunFault s schedule said NoMemory
+  NoRoom' : RunFault s schedule said NoMemory
