@@ -41,7 +41,7 @@ module _ (law : BlocksAreTrees) (p : Checked) (b at : ℕ) (fs : List Frame) (is
     place_is = refl;
     marks = ap (λ x. slice_get (marks_of x (cursor_body p fs)) at) same;
     within = subst (λ x. at < body_size x) same is.within;
-    short = subst (λ x. 0 + body_size x ≤ 60000) same is.before.short;
+    short = let e = ap body_size same in omega (arith, e, is.before.short);
     room = subst (λ x. length fs + depth_of x ≤ 32) same is.before.room;
   }
 

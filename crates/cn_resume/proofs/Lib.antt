@@ -11,3 +11,4 @@ pub mod Sizing
 pub mod Staging
 pub mod Stepping
 pub mod Taken
+pub mod Verdict

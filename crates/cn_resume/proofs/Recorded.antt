@@ -11,7 +11,7 @@ use Rattle.cn_resume.specs.Records.{EachBelow, entries_in, entry_in}
 use Rattle.cn_resume.specs.Fit.{PartsAt}
 
 pub entries_more : (l : Layout) (image : List ℕ) (n : ℕ) → entries_in l image (n + 1) ≡ entries_in l image n ++ entry_in l image n ∷ []
-entries_more l image n = map-range_with_len_more (entry_in l image) 0 n n refl
+entries_more l image n = map-range_with_len_more (entry_in l image) 0 n n (omega arith)
 
 pub each_more : (P : ℕ → Type 0) (n : ℕ) → EachBelow P n → P n → EachBelow P (n + 1)
 each_more P n before here k lt =

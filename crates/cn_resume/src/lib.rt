@@ -4,6 +4,7 @@
 mod accepting;
 mod fault;
 mod head;
+mod laws;
 mod places;
 mod records;
 mod rerun;
@@ -16,5 +17,6 @@ mod tests;
 
 pub use accepting::accept;
 pub use fault::{ImageFault, ImageKind};
+pub use laws::one_verdict;
 pub use saved::Saved;
 pub use saving::write_saved;

@@ -1,7 +1,7 @@
 //! Which files are accepted, and what is wrong with the others.
 
 use crate::fixtures::{
-    NODE, S1, accepted, arrivals_of, device, fresh_file, program_of, with, with_number,
+    S1, accepted, arrivals_of, device, fresh_file, program_of, with, with_number,
 };
 use cn_resume::{ImageFault, ImageKind};
 use std::alloc::Global;

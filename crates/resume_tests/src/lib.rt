@@ -5,3 +5,5 @@
 mod fixtures;
 #[cfg(test)]
 mod images;
+#[cfg(test)]
+mod lives;
