@@ -15,8 +15,8 @@ use Rattle.cn_resume.specs.Places.{IsAtStatement, AreAtStatements, Stands, IsBef
 use Rattle.cn_resume.proofs.Parts.{one, frame, frame_next, frame_over, frame_first, stmt_join, stmt_size, stmt_depth, stmt_some, depth_some}
 use Rattle.cn_resume.proofs.Marks.{CanStand, head_size, get_front, get_back, marks_length, when_within, choice_within, loop_within, stmt_behind, stmt_first, stmt_none, repeat_none}
 
-pub stands_as : (p : Checked) (marks marks' : Marks) (i j : ℕ) (yes : Bool) (fs : List Frame) → slice_get marks i ≡ slice_get marks' j → Stands p marks' j yes fs → Stands p marks i yes fs
-stands_as p marks marks' i j yes fs e s = record { some = λ y. e ∙ s.some y; at_statements = s.at_statements; none = λ n. e ∙ s.none n }
+pub stands_as : (p : Checked) (marks marks' : Marks) (i j : ℕ) (told : Bool) (fs : List Frame) → slice_get marks i ≡ slice_get marks' j → Stands p marks' j told fs → Stands p marks i told fs
+stands_as p marks marks' i j told fs e s = record { some = λ y. e ∙ s.some y; at_statements = s.at_statements; none = λ n. e ∙ s.none n }
 
 pub stands_yes : (p : Checked) (marks : Marks) (i : ℕ) (fs : List Frame) → slice_get marks i ≡ Some (Some (cursor_body p fs)) → AreAtStatements p fs → Stands p marks i true fs
 stands_yes p marks i fs e at = record { some = λ y. e; at_statements = λ y. at; none = λ n. cc }
@@ -86,9 +86,9 @@ module _ (law : BlocksAreTrees) (p : Checked) (b at : ℕ) (fs : List Frame) (is
           room = omega (arith, depth_is, f.room);
         }
 
-  pub finding_found : (left place n : ℕ) (yes : Bool) (found : List Frame) → Finding p b at fs left place n → Stands p (marks_of (frame_body p (frame b n)) (cursor_body p fs)) left yes found
-      → Stands p (marks_of (tree_of p.blocks b) (cursor_body p fs)) at yes found
-  finding_found left place n yes found f s = stands_as p _ _ at left yes found f.marks s
+  pub finding_found : (left place n : ℕ) (told : Bool) (found : List Frame) → Finding p b at fs left place n → Stands p (marks_of (frame_body p (frame b n)) (cursor_body p fs)) left told found
+      → Stands p (marks_of (tree_of p.blocks b) (cursor_body p fs)) at told found
+  finding_found left place n told found f s = stands_as p _ _ at left told found f.marks s
 
   pub finding_over : (left place n : ℕ) → length (block_at p.blocks b) ≤ n → Finding p b at fs left place n → ⊥
   finding_over left place n over f =
@@ -166,11 +166,11 @@ module _ (law : BlocksAreTrees) (p : Checked) (b n : ℕ) (s : Stmt) (at : ℕ) 
             within = omega (arith, within, behind);
           }
 
-      pub when_stands : (yes : Bool) (found : List Frame) → Stands p (marks_of (Tree on) (cursor_body p later)) (at - (expr_size test + 1)) yes found → Stands p (marks_of (frame_body p (frame b n)) K) at yes found
-      when_stands yes found stands =
+      pub when_stands : (told : Bool) (found : List Frame) → Stands p (marks_of (Tree on) (cursor_body p later)) (at - (expr_size test + 1)) told found → Stands p (marks_of (frame_body p (frame b n)) K) at told found
+      when_stands told found stands =
           let whole : frame_body p (frame b n) ≡ with_stmt Tree b n (If test on None) Behind = subst (λ x. frame_body p (frame b n) ≡ with_stmt Tree b n x Behind) e stmt_whole in
           let cut : at ≡ expr_size test + 1 + (at - (expr_size test + 1)) = omega (arith, behind) in
-          stands_as p _ _ at (at - (expr_size test + 1)) yes found
+          stands_as p _ _ at (at - (expr_size test + 1)) told found
           (ap (λ x. slice_get (marks_of x K) at) whole ∙ when_within Tree b n Behind K test on at (at - (expr_size test + 1)) cut when_in.within
           ∙ ap (λ x. slice_get (marks_of (Tree on) x) (at - (expr_size test + 1))) (sym body_is))
           stands
@@ -192,11 +192,11 @@ module _ (law : BlocksAreTrees) (p : Checked) (b n : ℕ) (s : Stmt) (at : ℕ) 
             within = omega (arith, within, behind);
           }
 
-      pub choice_stands : (yes : Bool) (found : List Frame) → Stands p (choice_marks p on off (cursor_body p later)) (at - (expr_size test + 1)) yes found → Stands p (marks_of (frame_body p (frame b n)) K) at yes found
-      choice_stands yes found stands =
+      pub choice_stands : (told : Bool) (found : List Frame) → Stands p (choice_marks p on off (cursor_body p later)) (at - (expr_size test + 1)) told found → Stands p (marks_of (frame_body p (frame b n)) K) at told found
+      choice_stands told found stands =
           let whole : frame_body p (frame b n) ≡ with_stmt Tree b n (If test on (Some off)) Behind = subst (λ x. frame_body p (frame b n) ≡ with_stmt Tree b n x Behind) e stmt_whole in
           let cut : at ≡ expr_size test + 1 + (at - (expr_size test + 1)) = omega (arith, behind) in
-          stands_as p _ _ at (at - (expr_size test + 1)) yes found
+          stands_as p _ _ at (at - (expr_size test + 1)) told found
           (ap (λ x. slice_get (marks_of x K) at) whole ∙ choice_within Tree b n Behind K test on off at (at - (expr_size test + 1)) cut choice_in.within
           ∙ ap (λ x. slice_get (choice_marks p on off x) (at - (expr_size test + 1))) (sym body_is))
           stands
@@ -235,10 +235,10 @@ module _ (law : BlocksAreTrees) (p : Checked) (b n : ℕ) (s : Stmt) (at : ℕ) 
         ap (λ x. slice_get (marks_of x K) at) loop_whole ∙ loop_within Tree b n Behind K test body at Inner cut loop_inner
         ∙ ap (λ x. slice_get (marks_of (Tree body) x ++ Some x ∷ []) Inner) (sym loop_opened)
 
-    pub loop_stands : (yes : Bool) (found : List Frame) → Inner < body_size (Tree body) → Stands p (marks_of (Tree body) (cursor_body p (frame b n ∷ fs))) Inner yes found → Stands p (marks_of (frame_body p (frame b n)) K) at yes found
-    loop_stands yes found lt stands =
+    pub loop_stands : (told : Bool) (found : List Frame) → Inner < body_size (Tree body) → Stands p (marks_of (Tree body) (cursor_body p (frame b n ∷ fs))) Inner told found → Stands p (marks_of (frame_body p (frame b n)) K) at told found
+    loop_stands told found lt stands =
         let l = marks_length (Tree body) (cursor_body p (frame b n ∷ fs)) in
-        stands_as p _ _ at Inner yes found (loop_marks ∙ get_front (marks_of (Tree body) (cursor_body p (frame b n ∷ fs))) (Some (cursor_body p (frame b n ∷ fs)) ∷ []) Inner (omega (arith, l, lt))) stands
+        stands_as p _ _ at Inner told found (loop_marks ∙ get_front (marks_of (Tree body) (cursor_body p (frame b n ∷ fs))) (Some (cursor_body p (frame b n ∷ fs)) ∷ []) Inner (omega (arith, l, lt))) stands
 
     pub loop_back : body_size (Tree body) ≤ Inner → Stands p (marks_of (frame_body p (frame b n)) K) at true (frame b n ∷ fs)
     loop_back le =
@@ -246,29 +246,29 @@ module _ (law : BlocksAreTrees) (p : Checked) (b n : ℕ) (s : Stmt) (at : ℕ) 
         stands_yes p _ at _ (loop_marks ∙ get_back (marks_of (Tree body) (cursor_body p (frame b n ∷ fs))) (Some (cursor_body p (frame b n ∷ fs)) ∷ []) Inner 0 (let i = loop_inner in omega (arith, l, le, i))) opened_at
 
 -- two blocks and the jump between them
-module _ (p : Checked) (yes no at : ℕ) (fs : List Frame) (is : IsChoiceIn p yes no at fs) where
+module _ (p : Checked) (on off at : ℕ) (fs : List Frame) (is : IsChoiceIn p on off at fs) where
   abbrev First : Marks
-  First = marks_of (tree_of p.blocks yes) (cursor_body p fs)
+  First = marks_of (tree_of p.blocks on) (cursor_body p fs)
 
   abbrev Second : Marks
-  Second = marks_of (tree_of p.blocks no) (cursor_body p fs)
+  Second = marks_of (tree_of p.blocks off) (cursor_body p fs)
 
-  first_length : length First ≡ body_size (tree_of p.blocks yes)
-  first_length = marks_length (tree_of p.blocks yes) (cursor_body p fs)
+  first_length : length First ≡ body_size (tree_of p.blocks on)
+  first_length = marks_length (tree_of p.blocks on) (cursor_body p fs)
 
-  pub first_in : at < body_size (tree_of p.blocks yes) → IsIn p yes at fs
+  pub first_in : at < body_size (tree_of p.blocks on) → IsIn p on at fs
   first_in lt = record { lower = is.lower; before = is.first; within = lt }
 
-  pub first_stands : (b : Bool) (found : List Frame) → at < body_size (tree_of p.blocks yes) → Stands p First at b found → Stands p (choice_marks p yes no (cursor_body p fs)) at b found
+  pub first_stands : (b : Bool) (found : List Frame) → at < body_size (tree_of p.blocks on) → Stands p First at b found → Stands p (choice_marks p on off (cursor_body p fs)) at b found
   first_stands b found lt s = stands_as p _ _ at at b found (get_front First (Some (cursor_body p fs) ∷ Second) at (omega (arith, first_length, lt))) s
 
-  pub jump_stands : at ≡ body_size (tree_of p.blocks yes) → Stands p (choice_marks p yes no (cursor_body p fs)) at true fs
+  pub jump_stands : at ≡ body_size (tree_of p.blocks on) → Stands p (choice_marks p on off (cursor_body p fs)) at true fs
   jump_stands e = stands_yes p _ at fs (get_back First (Some (cursor_body p fs) ∷ Second) at 0 (omega (arith, first_length, e))) is.first.behind
 
-  pub second_in : body_size (tree_of p.blocks yes) < at → IsIn p no (at - body_size (tree_of p.blocks yes) - 1) fs
+  pub second_in : body_size (tree_of p.blocks on) < at → IsIn p off (at - body_size (tree_of p.blocks on) - 1) fs
   second_in lt = record { lower = is.lower; before = is.second; within = omega (arith, is.within, lt) }
 
-  pub second_stands : (b : Bool) (found : List Frame) → body_size (tree_of p.blocks yes) < at → Stands p Second (at - body_size (tree_of p.blocks yes) - 1) b found → Stands p (choice_marks p yes no (cursor_body p fs)) at b found
+  pub second_stands : (b : Bool) (found : List Frame) → body_size (tree_of p.blocks on) < at → Stands p Second (at - body_size (tree_of p.blocks on) - 1) b found → Stands p (choice_marks p on off (cursor_body p fs)) at b found
   second_stands b found lt s =
-      stands_as p _ _ at (at - body_size (tree_of p.blocks yes) - 1) b found
-      (get_back First (Some (cursor_body p fs) ∷ Second) at (suc (at - body_size (tree_of p.blocks yes) - 1)) (omega (arith, first_length, lt))) s
+      stands_as p _ _ at (at - body_size (tree_of p.blocks on) - 1) b found
+      (get_back First (Some (cursor_body p fs) ∷ Second) at (suc (at - body_size (tree_of p.blocks on) - 1)) (omega (arith, first_length, lt))) s

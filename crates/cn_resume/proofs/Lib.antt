@@ -11,4 +11,5 @@ pub mod Sizing
 pub mod Staging
 pub mod Stepping
 pub mod Taken
+pub mod Tasks
 pub mod Verdict

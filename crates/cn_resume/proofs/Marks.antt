@@ -25,14 +25,21 @@ module _ {A : Type 0} where
   get_same (suc n) x zero lt = refl
   get_same (suc n) x (suc i) lt = get_same n x i (omega (arith, lt))
 
+-- places that stand for nothing
+abbrev nones : ℕ → Marks
+nones n = replicate n None
+
+nones_length : (n : ℕ) → length (nones n) ≡ n
+nones_length n = length-replicate n None
+
 marked_length : (k : Body) (n : ℕ) → length (marked k n) ≡ n + 1
-marked_length k n = let e : length (replicate n (None {A = Body})) ≡ n = length-replicate n None in omega (arith, e)
+marked_length k n = let e = nones_length n in omega (arith, e)
 
 -- behind a statement's first instruction up to its last one nothing is stood for
 pub marked_none : (k : Body) (n : ℕ) (xs : Marks) (i : ℕ) → 0 < i → i < n + 1 → slice_get (marked k n ++ xs) i ≡ Some None
 marked_none k n xs zero some lt = absurd (omega (arith, some))
 marked_none k n xs (suc i) some lt =
-    let e : length (replicate n (None {A = Body})) ≡ n = length-replicate n None in
+    let e = nones_length n in
     get_front (replicate n None) xs i (omega (arith, lt, e)) ∙ get_same n None i (omega (arith, lt))
 
 pub marked_behind : (k : Body) (n : ℕ) (xs : Marks) (i j : ℕ) → i ≡ n + 1 + j → slice_get (marked k n ++ xs) i ≡ slice_get xs j
@@ -67,8 +74,8 @@ marks_length (Loop b p test body rest) k =
     let first = marked_length j (expr_size test) in
     omega (arith, whole, later, first, marks_length body j, marks_length rest k)
 marks_length (Turns b p n body rest) k =
-    let whole = length-append (replicate (2 + body_size body + 1) (None {A = Body})) (marks_of rest k) in
-    let first : length (replicate (2 + body_size body + 1) (None {A = Body})) ≡ 2 + body_size body + 1 = length-replicate (2 + body_size body + 1) None in
+    let whole = length-append (nones (2 + body_size body + 1)) (marks_of rest k) in
+    let first = nones_length (2 + body_size body + 1) in
     omega (arith, whole, first, marks_length rest k)
 
 append_twice : {A : Type 0} (xs ys zs : List A) → (xs ++ ys) ++ zs ≡ xs ++ (ys ++ zs)
@@ -178,7 +185,7 @@ module _ (f : ℕ → Body) (b n : ℕ) (rest k : Body) where
   front_of (Repeat count body) = record {
     marks = replicate (2 + body_size (f body) + 1) None;
     whole = refl;
-    size = let l : length (replicate (2 + body_size (f body) + 1) (None {A = Body})) ≡ 2 + body_size (f body) + 1 = length-replicate (2 + body_size (f body) + 1) None in omega (arith, l);
+    size = let l = nones_length (2 + body_size (f body) + 1) in omega (arith, l);
   }
 
   -- the places behind a statement
@@ -214,5 +221,5 @@ module _ (f : ℕ → Body) (b n : ℕ) (rest k : Body) where
   -- a repeat's places stand for nothing
   pub repeat_none : (count body i : ℕ) → i < body_size (one f (Repeat count body)) → slice_get (marks_of (with_stmt f b n (Repeat count body) rest) k) i ≡ Some None
   repeat_none count body i lt =
-      let l : length (replicate (2 + body_size (f body) + 1) (None {A = Body})) ≡ 2 + body_size (f body) + 1 = length-replicate (2 + body_size (f body) + 1) None in
+      let l = nones_length (2 + body_size (f body) + 1) in
       get_front (replicate (2 + body_size (f body) + 1) None) (marks_of rest k) i (omega (arith, l, lt)) ∙ get_same (2 + body_size (f body) + 1) None i (omega (arith, lt))

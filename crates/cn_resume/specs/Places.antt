@@ -26,10 +26,10 @@ abbrev pub AreFound : Checked → Option Body → Option (List Frame) → Type 0
 AreFound p left found = MatchOption found (left ≡ None) (IsLeft p left)
 
 -- a place of some marks stands for what is left, or for nothing
-pub record Stands (p : Checked) (marks : Marks) (at : ℕ) (yes : Bool) (frames : List Frame) : Type 0 where
-  pub some : yes ≡ true → slice_get marks at ≡ Some (Some (cursor_body p frames))
-  pub at_statements : yes ≡ true → AreAtStatements p frames
-  pub none : yes ≡ false → slice_get marks at ≡ Some None
+pub record Stands (p : Checked) (marks : Marks) (at : ℕ) (found : Bool) (frames : List Frame) : Type 0 where
+  pub some : found ≡ true → slice_get marks at ≡ Some (Some (cursor_body p frames))
+  pub at_statements : found ≡ true → AreAtStatements p frames
+  pub none : found ≡ false → slice_get marks at ≡ Some None
 
 -- a block that is not too long and not too deep, behind which these frames are left
 pub record IsBefore (p : Checked) (b : ℕ) (frames : List Frame) : Type 0 where
@@ -58,11 +58,11 @@ pub record IsStmtIn (p : Checked) (f : Frame) (s : Stmt) (at : ℕ) (frames : Li
 
 -- two blocks with a jump between them, behind both of which k follows
 abbrev pub choice_marks : Checked → ℕ → ℕ → Body → Marks
-choice_marks p yes no k = marks_of (tree_of p.blocks yes) k ++ (Some k ∷ marks_of (tree_of p.blocks no) k)
+choice_marks p on off k = marks_of (tree_of p.blocks on) k ++ (Some k ∷ marks_of (tree_of p.blocks off) k)
 
 -- a place in their code
-pub record IsChoiceIn (p : Checked) (yes no at : ℕ) (frames : List Frame) : Type 0 where
+pub record IsChoiceIn (p : Checked) (on off at : ℕ) (frames : List Frame) : Type 0 where
   pub lower : EachLower 0 p.blocks
-  pub first : IsBefore p yes frames
-  pub second : IsBefore p no frames
-  pub within : at < body_size (tree_of p.blocks yes) + 1 + body_size (tree_of p.blocks no)
+  pub first : IsBefore p on frames
+  pub second : IsBefore p off frames
+  pub within : at < body_size (tree_of p.blocks on) + 1 + body_size (tree_of p.blocks off)

@@ -2,8 +2,8 @@
 
 ghost use Rattle.std.specs.Prelude.{◌≡◌, ◌<◌, ◌≤◌, ◌+◌, ◌↔◌, IsTrue, Option, Some, length};
 ghost use Rattle.cat_program.specs.Body.{Body, join, tree_of, block_at};
-ghost use Rattle.cat_program.specs.Places.{marks_of};
-ghost use Rattle.cat_program.specs.Checked.{rest_at};
+ghost use Rattle.cat_program.specs.Places.{body_size, marks_of, rest_in, task_marks};
+ghost use Rattle.cat_program.specs.Checked.{EachLower, depth_of, rest_at};
 ghost use Rattle.cat_program.specs.Resting.{RestsAt};
 ghost use Rattle.cat_eval.specs.Cursor.{cursor_body, frame_body};
 ghost use Rattle.cn_resume.specs.Places.{AreAtStatements, AreFound, IsChoiceIn, IsIn, IsStmtIn, Stands, choice_marks};
@@ -115,7 +115,15 @@ fn find_either(program: &Program, yes: u32, no: u32, at: u32, rest: &mut Rest) -
 }
 
 /// What is left at a place of a task, where its block has this size, `None` where the place stands for no list of statements.
-fn rest_in(program: &Program, body: u32, size: u32, at: u32) -> Option<Rest> {
+fn rest_in(program: &Program, body: u32, size: u32, at: u32) -> Option<Rest>
+    requires lower { EachLower 0 program.now.blocks }
+    requires block { body < length program.now.blocks }
+    requires size { size ≡ body_size (tree_of program.now.blocks body) }
+    requires short { size ≤ 60000 }
+    requires shallow { depth_of (tree_of program.now.blocks body) ≤ 32 }
+    requires within { at < size + 2 }
+    ensures { AreFound program.now (rest_in (task_marks (tree_of program.now.blocks body)) at) result }
+{
     if at == 0 {
         return None;
     }
@@ -134,6 +142,7 @@ fn rest_in(program: &Program, body: u32, size: u32, at: u32) -> Option<Rest> {
 fn rest_of(program: &Program, pc: u32) -> Option<Rest>
     ensures { AreFound program.now (rest_at program.now pc) result }
 {
+    parts_law();
     let _checked = program.bodies();
     let mut left = pc;
     for t in 0..program.tasks() {

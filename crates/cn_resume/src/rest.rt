@@ -14,13 +14,13 @@ pub(crate) struct Rest {
 
 impl Model for Rest {
     ghost use Rattle.std.specs.Prelude.{List, reverse};
-    ghost use Rattle.std.specs.Coded.{coded_list};
+    ghost use Rattle.std.specs.Coded.{codes};
     ghost use Rattle.cat_eval.specs.declared.state.Frame.{Frame as Open};
     ghost use Rattle.cat_eval.specs.contracts.state.Frame as f;
 
     ghost Value = { List Open };
 
-    ghost coded = { coded_list f.the_row.code };
+    ghost coded = { Prim.hlevel (codes, f.the_row.coded) };
 
     ghost view = { λ r. reverse r.frames.items };
 }
