@@ -97,7 +97,7 @@ module _ (law : BlocksAreTrees) (p : Checked) (b at : ℕ) (fs : List Frame) (is
       omega (arith, none, lt)
 
 -- within a statement
-module _ (law : BlocksAreTrees) (p : Checked) (b n : ℕ) (s : Stmt) (at : ℕ) (fs : List Frame) (is : IsStmtIn p (frame b n) s at fs) where
+module _ (p : Checked) (b n : ℕ) (s : Stmt) (at : ℕ) (fs : List Frame) (is : IsStmtIn p (frame b n) s at fs) where
   abbrev Tree : ℕ → Body
   Tree = tree_of p.blocks
 
@@ -143,6 +143,28 @@ module _ (law : BlocksAreTrees) (p : Checked) (b n : ℕ) (s : Stmt) (at : ℕ) 
   -- the places behind it, up to its last instruction or the end of its test
   pub at_none : (found : List Frame) → CanStand s → 0 < at → at < head_size s → Stands p (marks_of (frame_body p (frame b n)) K) at false found
   at_none found can some lt = stands_no p _ at found (marks_are ∙ stmt_none Tree b n Behind K s at can some lt)
+
+  -- the same, where the statement is known
+  pub at_first_as : (s' : Stmt) → s ≡ s' → CanStand s' → at ≡ 0 → Stands p (marks_of (frame_body p (frame b n)) K) at true (frame b n ∷ fs)
+  at_first_as s' e can zero_is = at_first (subst CanStand (sym e) can) zero_is
+
+  pub at_none_as : (s' : Stmt) (found : List Frame) → s ≡ s' → CanStand s' → 0 < at → at < head_size s' → Stands p (marks_of (frame_body p (frame b n)) K) at false found
+  at_none_as s' found e can some lt = at_none found (subst CanStand (sym e) can) some (subst (λ x. at < head_size x) (sym e) lt)
+
+  -- a statement with no block: only its first place stands for something
+  pub at_plain : (s' : Stmt) (told : Bool) (new : List Frame) → s ≡ s' → CanStand s' → body_size (one Tree s') ≤ head_size s' → (told ≡ true → (at ≡ 0) × (new ≡ frame b n ∷ fs)) → (told ≡ false → (0 < at) × (new ≡ fs))
+      → Stands p (marks_of (frame_body p (frame b n)) K) at told new
+  at_plain s' true new e can le first later = subst (λ (l : List Frame). Stands p (marks_of (frame_body p (frame b n)) K) at true l) (sym (first refl).1) (at_first_as s' e can (first refl).0)
+  at_plain s' false new e can le first later =
+      let within : at < body_size (one Tree s') = subst (λ x. at < body_size (one Tree x)) e is.within in
+      at_none_as s' new e can (later refl).0 (omega (arith, within, le))
+
+  pub test_short : (test : Expr) (on : ℕ) (off : Option ℕ) → s ≡ If test on off → expr_size test < 60000
+  test_short test on None e = let short : body_size (one Tree (If test on None)) ≤ 60000 = subst (λ x. body_size (one Tree x) ≤ 60000) e stmt_short in omega (arith, short)
+  test_short test on (Some off) e = let short : body_size (one Tree (If test on (Some off))) ≤ 60000 = subst (λ x. body_size (one Tree x) ≤ 60000) e stmt_short in omega (arith, short)
+
+  pub loop_short : (test : Expr) (body : ℕ) → s ≡ While test body → expr_size test < 60000
+  loop_short test body e = let short : body_size (one Tree (While test body)) ≤ 60000 = subst (λ x. body_size (one Tree x) ≤ 60000) e stmt_short in omega (arith, short)
 
   pub at_repeat : (found : List Frame) (count body : ℕ) → s ≡ Repeat count body → Stands p (marks_of (frame_body p (frame b n)) K) at false found
   at_repeat found count body e =

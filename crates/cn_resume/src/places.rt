@@ -1,6 +1,6 @@
 //! What a place of task code stands for.
 
-ghost use Rattle.std.specs.Prelude.{◌≡◌, ◌<◌, ◌≤◌, ◌+◌, ◌↔◌, IsTrue, Option, Some, length};
+ghost use Rattle.std.specs.Prelude.{◌≡◌, ◌<◌, ◌≤◌, ◌+◌, ◌↔◌, IsTrue, true, false, ◌∷◌, Option, Some, length};
 ghost use Rattle.cat_program.specs.Body.{Body, join, tree_of, block_at};
 ghost use Rattle.cat_program.specs.Places.{body_size, marks_of, rest_in, task_marks};
 ghost use Rattle.cat_program.specs.Checked.{EachLower, depth_of, rest_at};
@@ -26,6 +26,19 @@ fn open_behind(program: &Program, b: u32, place: u32, rest: &mut Rest)
     if place as usize + 1 < program.block(b).len() {
         rest.open(b, place + 1);
     }
+}
+
+/// Goes on at a statement of a block, where the place is its first one.
+fn open_first(b: u32, place: u32, at: u32, rest: &mut Rest) -> bool
+    requires { length rest.old < 32 }
+    ensures first { result ≡ true → (at ≡ 0) × (rest.new ≡ record { block = b; place = place } ∷ rest.old) }
+    ensures later { result ≡ false → (0 < at) × (rest.new ≡ rest.old) }
+{
+    if at == 0 {
+        rest.open(b, place);
+        return true;
+    }
+    false
 }
 
 /// Whether place `at` of a block's code stands for a list, where `rest` is left behind the block. What is left at that place is
@@ -57,7 +70,6 @@ fn find_at(program: &Program, b: u32, place: u32, stmt: &Stmt, at: u32, rest: &m
     ensures { Stands program.now (marks_of (frame_body program.now (record { block = b; place = place })) (cursor_body program.now rest.old)) at result rest.new }
 {
     match stmt {
-        Stmt::Repeat { .. } => false,
         Stmt::If { test, yes, no } => {
             if at == 0 {
                 rest.open(b, place);
@@ -88,13 +100,11 @@ fn find_at(program: &Program, b: u32, place: u32, stmt: &Stmt, at: u32, rest: &m
             }
             true
         }
-        _ => {
-            if at == 0 {
-                rest.open(b, place);
-                return true;
-            }
-            false
-        }
+        Stmt::Repeat { .. } => false,
+        Stmt::Set { .. } => open_first(b, place, at, rest),
+        Stmt::SetAt { .. } => open_first(b, place, at, rest),
+        Stmt::Out { .. } => open_first(b, place, at, rest),
+        Stmt::Post { .. } => open_first(b, place, at, rest),
     }
 }
 

@@ -1,6 +1,6 @@
 //! The run of what a slot has logged, by the code.
 
-ghost use Rattle.std.specs.Prelude.{◌≡◌, ◌<◌, ◌≤◌, ◌+◌, ◌∷◌, [], List, length, replicate, Some, IfOk, OnOk, MatchOption};
+ghost use Rattle.std.specs.Prelude.{◌≡◌, ◌<◌, ◌≤◌, ◌+◌, ◌∷◌, ◌++◌, [], List, length, replicate, Some, IfOk, OnOk};
 ghost use Rattle.cat_program.specs.Checked.{HasVersion, body_at, program_marks};
 ghost use Rattle.cat_program.specs.Meaning.{TaskState};
 ghost use Rattle.cat_machine.specs.Code.{code_of};
@@ -17,24 +17,27 @@ use event_arrivals::Arrivals;
 use reference_run::{Item, Schedule};
 use std::alloc::{AllocError, Global};
 
-/// The item that an entry tells, if it is an event's.
-fn item_of(entry: &LogEntry) -> Option<Item>
-    ensures { MatchOption result (items_in (entry.now ∷ []) ≡ []) (λ item. items_in (entry.now ∷ []) ≡ item ∷ []) }
+/// The item of an event's entry is added.
+fn add(items: &mut Vec<Item>, entry: &LogEntry) -> Result<(), AllocError>
+    ensures { OnOk result (items.new.items ≡ items.old.items ++ items_in (entry.now ∷ [])) }
 {
     match entry {
-        LogEntry::Out { .. } => None,
+        LogEntry::Out { .. } => Ok(()),
         LogEntry::Ran {
             event,
             version,
             steps,
             start,
             ..
-        } => Some(Item {
-            steps: *steps,
-            event: *event,
-            version: *version,
-            start: *start,
-        }),
+        } => {
+            items.push(Item {
+                steps: *steps,
+                event: *event,
+                version: *version,
+                start: *start,
+            })?;
+            Ok(())
+        }
     }
 }
 
@@ -43,10 +46,7 @@ fn items_of(alloc: Global, entries: &[LogEntry]) -> Result<Vec<Item>, AllocError
 {
     let mut items = Vec::new(alloc);
     for entry in entries {
-        match item_of(entry) {
-            Some(item) => items.push(item)?,
-            None => {}
-        }
+        add(&mut items, entry)?;
     }
     Ok(items)
 }
