@@ -7,6 +7,7 @@ pub mod Order
 pub mod Parts
 pub mod Recorded
 pub mod Rows
+pub mod Running
 pub mod Sizing
 pub mod Staging
 pub mod Stepping
