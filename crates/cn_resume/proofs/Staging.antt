@@ -1,11 +1,12 @@
 -- What is found out about an image decides its conditions one after the other.
-use Rattle.std.proofs.Common.{◌≡◌, ◌≤◌, ◌<◌, ℕ, List, Option, Some, None, refl, sym, ap, ◌∙◌, subst, arith}
+use Rattle.std.proofs.Common.{◌≡◌, ◌≤◌, ◌<◌, ℕ, List, length, length-drop, Option, Some, None, refl, sym, ap, ◌∙◌, subst, arith}
 use Rattle.std.specs.Option.{option_and_then}
 use Rattle.cat_program.specs.declared.outs.LogEntry.{LogEntry}
 use Rattle.cat_program.specs.Body.{Body}
 use Rattle.cat_program.specs.Checked.{Checked, rest_at}
 use Rattle.cat_program.specs.Resting.{RestsAt}
 use Rattle.nv_memory.specs.declared.layout.Layout.{Layout}
+use Rattle.nv_memory.specs.Layout.{size_of}
 use Rattle.checkpoint_slots.specs.declared.slot.Slot.{Slot}
 use Rattle.reference_run.specs.Reference.{Setting, IsReference}
 use Rattle.logged_runs.specs.Own.{schedule_of}
@@ -13,7 +14,7 @@ use Rattle.cn_resume.specs.declared.fault.ImageFault.{ImageFault}
 use Rattle.cn_resume.specs.declared.fault.ImageFault.TheVariants.{BadImage, NoMemory}
 use Rattle.cn_resume.specs.declared.fault.ImageKind.TheVariants as kind
 use Rattle.cn_resume.specs.Records.{entries_in}
-use Rattle.cn_resume.specs.Fit.{Purpose, HoldsBefore, IsFit, IsRefused, purpose_of, tick_in, image_in, slot_in, logged_in, current_in, moment_in, schedule_in}
+use Rattle.cn_resume.specs.Fit.{Purpose, HasSize, HoldsBefore, IsFit, IsRefused, purpose_of, tick_in, image_in, slot_in, logged_in, current_in, moment_in, schedule_in}
 use Rattle.cn_resume.specs.Stages.{IsSlotRead, SlotFault, NotFormed, TooManySteps, NoRest, IsLogRead, LogFault, BadRecord, BadCount, NoRoom, RunFault, NoRun, OtherEnd, NoRoom', said_moment}
 use Rattle.cn_resume.proofs.Order.{one_further, all_hold}
 
@@ -27,6 +28,16 @@ current_is program (Some pc) None rests = absurd rests
 module _ (s : Setting) (l : Layout) (cap life : ℕ) (file : List ℕ) where
   abbrev P : Purpose
   P = purpose_of s l cap life
+
+  -- what the head says of the rest
+  pub sized : HoldsBefore P file kind.Slot → HasSize l file
+  sized before = before kind.Size (omega arith)
+
+  pub in_life : HoldsBefore P file kind.Slot → tick_in file ≤ life
+  in_life before = before kind.Tick (omega arith)
+
+  pub image_length : HoldsBefore P file kind.Slot → length (image_in file) ≡ size_of l
+  image_length before = let whole = (sized before).size in let cut = length-drop 16 file in omega (arith, whole, cut)
 
   pub slot_refused : (fault : ImageFault) → HoldsBefore P file kind.Slot → SlotFault l s.program (tick_in file) (image_in file) fault → IsRefused P file fault
   slot_refused fault before (NotFormed no) = record { earlier = before; fails = (no, refl) }
