@@ -74,13 +74,12 @@ frames_told p (f ∷ fs) (g ∷ gs) a b e =
 -- two places stand for the same exactly where the same frames are left there
 rests_alike : (p : Checked) (fs gs : List Frame) (k j : Body) → AreAtStatements p fs → AreAtStatements p gs → Some (cursor_body p fs) ≡ Some k → Some (cursor_body p gs) ≡ Some j → (Yes : Type 0) → (Yes → fs ≡ gs) → (fs ≡ gs → Yes)
     → (Yes → Some k ≡ Some j) × (Some k ≡ Some j → Yes)
-rests_alike p fs gs k j a b first second Yes told back =
-    (
-      λ y. sym first ∙ ap (λ (l : List Frame). Some (cursor_body p l)) (told y) ∙ second,
-      λ same. (let e : Some (cursor_body p fs) ≡ Some (cursor_body p gs) = first ∙ same ∙ sym second in
-        let one : cursor_body p fs ≡ cursor_body p gs = cc in
-        back (frames_told p fs gs a b one)),
-    )
+rests_alike p fs gs k j a b first second Yes told back = (
+  λ y. sym first ∙ ap (λ (l : List Frame). Some (cursor_body p l)) (told y) ∙ second,
+  λ same. (let e : Some (cursor_body p fs) ≡ Some (cursor_body p gs) = first ∙ same ∙ sym second in
+      let one : cursor_body p fs ≡ cursor_body p gs = cc in
+      back (frames_told p fs gs a b one)),
+)
 
 pub rests_told : (p : Checked) (x y : ℕ) (fs gs : List Frame) → IsLeft p (rest_at p x) fs → IsLeft p (rest_at p y) gs → (Yes : Type 0) → (Yes → fs ≡ gs) → (fs ≡ gs → Yes) → (a b : Option Body) → RestsAt p (Some x) a → RestsAt p (Some y) b
     → (Yes → a ≡ b) × (a ≡ b → Yes)

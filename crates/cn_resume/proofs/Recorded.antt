@@ -35,11 +35,11 @@ parts_at_end one other n e differ same =
       same = same;
       differ = elim (cases_lt (length one) (length other)) [
         | inl less ↦
-          (let there = some_there other n (omega (arith, e, less)) in
-          none_and_some (slice_get one n) (slice_get other n) there.0 (slice_get_past one n (omega (arith, e, less))) there.1)
+            (let there = some_there other n (omega (arith, e, less)) in
+            none_and_some (slice_get one n) (slice_get other n) there.0 (slice_get_past one n (omega (arith, e, less))) there.1)
         | inr more ↦
-          (let there = some_there one n (omega (arith, e, more, differ)) in
-          λ alike. none_and_some (slice_get other n) (slice_get one n) there.0 (slice_get_past other n (omega (arith, e, more))) there.1 (sym alike))
+            (let there = some_there one n (omega (arith, e, more, differ)) in
+            λ alike. none_and_some (slice_get other n) (slice_get one n) there.0 (slice_get_past other n (omega (arith, e, more))) there.1 (sym alike))
       ];
     }
 

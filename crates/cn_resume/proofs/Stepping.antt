@@ -68,9 +68,9 @@ way_ends p upto steps end h over w =
     elim (cases_lt upto w.now.steps) [
       | inl late ↦ (let never : None ≡ Some end = sym (to_late (body_at p) upto w.now late) ∙ w.left in cc)
       | inr not_late ↦
-        (let there : Some w.now ≡ Some end = sym (to_same (body_at p) upto w.now (omega (arith, not_late, over, w.steps_are))) ∙ w.left in
-        let same : w.now ≡ end = cc in
-        subst (λ (m : Moment). Corresponds (program_marks p) h m.state) same w.corresponds)
+          (let there : Some w.now ≡ Some end = sym (to_same (body_at p) upto w.now (omega (arith, not_late, over, w.steps_are))) ∙ w.left in
+          let same : w.now ≡ end = cc in
+          subst (λ (m : Moment). Corresponds (program_marks p) h m.state) same w.corresponds)
     ]
 
 idle_from : (p : Checked) (s : TaskState) (old : Held) (answer : Stepped) (new : Held) → Corresponds (program_marks p) old s → (found : Option TaskStep)

@@ -22,9 +22,9 @@ first_is_one P n i j a b =
     elim (cases_order i j) [
       | inl same ↦ same
       | inr differ ↦ elim differ [
-          | inl less ↦ absurd (a.without (b.before i less))
-          | inr more ↦ absurd (b.without (a.before j more))
-        ]
+        | inl less ↦ absurd (a.without (b.before i less))
+        | inr more ↦ absurd (b.without (a.before j more))
+      ]
     ]
 
 -- an element is told by a longer front
@@ -43,9 +43,9 @@ parts_are_one one other i j a b =
     elim (cases_order i j) [
       | inl same ↦ same
       | inr differ ↦ elim differ [
-          | inl less ↦ absurd (a.differ (taken_at one other i j less b.same))
-          | inr more ↦ absurd (b.differ (taken_at one other j i more a.same))
-        ]
+        | inl less ↦ absurd (a.differ (taken_at one other i j less b.same))
+        | inr more ↦ absurd (b.differ (taken_at one other j i more a.same))
+      ]
     ]
 
 not_itself : (m : Moment) (at : ℕ) → EndsOtherwise m m at → ⊥
@@ -57,13 +57,13 @@ not_itself m at other = elim other [
 ends_are_one : (end said : Moment) (i j : ℕ) → EndsOtherwise end said i → EndsOtherwise end said j → i ≡ j
 ends_are_one end said i j a b = elim a [
   | inl parts ↦ elim b [
-      | inl other ↦ parts_are_one end.entries said.entries i j parts other
-      | inr states ↦ absurd (parts.differ (ap (λ (l : List LogEntry). slice_get l i) states.0))
-    ]
+    | inl other ↦ parts_are_one end.entries said.entries i j parts other
+    | inr states ↦ absurd (parts.differ (ap (λ (l : List LogEntry). slice_get l i) states.0))
+  ]
   | inr states ↦ elim b [
-      | inl parts ↦ absurd (parts.differ (ap (λ (l : List LogEntry). slice_get l j) states.0))
-      | inr other ↦ states.2 ∙ sym other.2
-    ]
+    | inl parts ↦ absurd (parts.differ (ap (λ (l : List LogEntry). slice_get l j) states.0))
+    | inr other ↦ states.2 ∙ sym other.2
+  ]
 ]
 
 module _ (runs : RunsAreOne) (p : Purpose) (file : List ℕ) where
@@ -104,10 +104,10 @@ module _ (runs : RunsAreOne) (p : Purpose) (file : List ℕ) where
   one_fault k j at by a b =
       elim (cases_order (rank k) (rank j)) [
         | inl same ↦
-          (let kinds = one_rank k j same in
-          (kinds, one_number j at by (subst (λ (x : ImageKind). Fails p file x at) kinds a.fails) b.fails))
+            (let kinds = one_rank k j same in
+            (kinds, one_number j at by (subst (λ (x : ImageKind). Fails p file x at) kinds a.fails) b.fails))
         | inr differ ↦ elim differ [
-            | inl less ↦ absurd (fails_not k at a.fails (b.earlier k less))
-            | inr more ↦ absurd (fails_not j by b.fails (a.earlier j more))
-          ]
+          | inl less ↦ absurd (fails_not k at a.fails (b.earlier k less))
+          | inr more ↦ absurd (fails_not j by b.fails (a.earlier j more))
+        ]
       ]

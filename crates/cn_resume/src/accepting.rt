@@ -62,17 +62,11 @@ fn check_slot<B: Board>(
 {
     parts_are_apart();
     if !well_formed(board, layout) {
-        return Err(ImageFault::BadImage(
-            ImageKind::Slot,
-            u64::from(selected(board)),
-        ));
+        return Err(ImageFault::BadImage(ImageKind::Slot, u64::from(selected(board))));
     }
     load(board, layout, slot);
     if slot.steps > tick {
-        return Err(ImageFault::BadImage(
-            ImageKind::Steps,
-            u64::from(slot.steps),
-        ));
+        return Err(ImageFault::BadImage(ImageKind::Steps, u64::from(slot.steps)));
     }
     check_place(program, slot)
 }

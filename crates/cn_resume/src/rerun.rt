@@ -101,14 +101,7 @@ fn serve(
 {
     runs_end();
     let mut outs = Outs::with_room(alloc, program.most_outs(item.event, item.version))?;
-    handler(
-        code,
-        working,
-        item.event,
-        item.version,
-        payload,
-        &mut outs,
-    );
+    handler(code, working, item.event, item.version, payload, &mut outs);
     Ok(())
 }
 
@@ -191,16 +184,8 @@ pub(crate) fn after(
     let mut run = first(alloc, program)?;
     let items = schedule.items.as_slice();
     'items: for i in 0..items.len() {
-        take_item(
-            alloc, program, code, versions, arrivals, items, i, &mut run,
-        )?;
+        take_item(alloc, program, code, versions, arrivals, items, i, &mut run)?;
     }
-    advance(
-        program,
-        code,
-        &mut run.working,
-        run.steps,
-        schedule.total,
-    );
+    advance(program, code, &mut run.working, run.steps, schedule.total);
     Ok(run.working)
 }

@@ -34,6 +34,9 @@ fn a_board_is_saved_behind_its_head(rt: HostRuntime) -> Result<(), Fail> {
     };
     let mut sink = MemSink::new(rt.alloc(), 40, 7)?;
     write_saved(&board, &mut sink)?;
-    assert_eq!(rt; sink.bytes(), b"CNI1\0\0\0\0T\0\0\0\0\0\0\0\x01\x02\xfe\xff".as_slice());
+    assert_eq!(rt;
+        sink.bytes(),
+        b"CNI1\0\0\0\0T\0\0\0\0\0\0\0\x01\x02\xfe\xff".as_slice()
+    );
     Ok(())
 }

@@ -8,14 +8,20 @@ use std::alloc::Global;
 use std::test::Fail;
 
 const TICKS: &[u8] = b"ticks,harvest,extra,sample\n30,0,0,0\n";
+
 const ROWS: &[u8] = b"tick,event,payload\n";
 
 // Places in a file for S1: the slot's numbers, and the log.
 const LEN: usize = 80;
+
 const STEPS: usize = 84;
+
 const PLACE: usize = 88;
+
 const X: usize = 92;
+
 const POSTS: usize = 96;
+
 const LOG: usize = 208;
 
 // The fault of a file for S1, or none.
@@ -75,11 +81,17 @@ fn what_is_wrong_with_the_head_is_named(rt: HostRuntime) -> Result<(), Fail> {
     assert_eq!(rt; fault(alloc, b"CNI1")?, bad(ImageKind::Size, 4));
     assert_eq!(rt; fault(alloc, &file[..1807])?, bad(ImageKind::Size, 1807));
     let changed = with(alloc, file, 15, &[1])?;
-    assert_eq!(rt; fault(alloc, changed.as_slice())?, bad(ImageKind::Size, 1808));
+    assert_eq!(rt;
+        fault(alloc, changed.as_slice())?,
+        bad(ImageKind::Size, 1808)
+    );
     let changed = with_number(alloc, file, 4, 31)?;
     assert_eq!(rt; fault(alloc, changed.as_slice())?, bad(ImageKind::Tick, 31));
     let changed = with_number(alloc, file, 8, 101)?;
-    assert_eq!(rt; fault(alloc, changed.as_slice())?, bad(ImageKind::Stored, 101));
+    assert_eq!(rt;
+        fault(alloc, changed.as_slice())?,
+        bad(ImageKind::Stored, 101)
+    );
     Ok(())
 }
 
@@ -93,10 +105,16 @@ fn what_is_wrong_with_the_slot_is_named(rt: HostRuntime) -> Result<(), Fail> {
     let changed = with_number(alloc, file, LEN, 101)?;
     assert_eq!(rt; fault(alloc, changed.as_slice())?, bad(ImageKind::Slot, 0));
     let changed = with_number(alloc, file, STEPS, 10)?;
-    assert_eq!(rt; fault(alloc, changed.as_slice())?, bad(ImageKind::Steps, 10));
+    assert_eq!(rt;
+        fault(alloc, changed.as_slice())?,
+        bad(ImageKind::Steps, 10)
+    );
     for place in [0, 2, 3, 4, 6, 8, 4294967294] {
         let changed = with_number(alloc, file, PLACE, place)?;
-        assert_eq!(rt; fault(alloc, changed.as_slice())?, bad(ImageKind::Place, u64::from(place)));
+        assert_eq!(rt;
+            fault(alloc, changed.as_slice())?,
+            bad(ImageKind::Place, u64::from(place))
+        );
     }
     for place in [1, 5, 7] {
         let changed = with_number(alloc, file, PLACE, place)?;
@@ -112,7 +130,10 @@ fn what_is_wrong_with_the_run_is_named(rt: HostRuntime) -> Result<(), Fail> {
     let changed = with(alloc, file.as_slice(), X, &[7])?;
     assert_eq!(rt; fault(alloc, changed.as_slice())?, bad(ImageKind::State, 0));
     let changed = with_number(alloc, file.as_slice(), STEPS, 5)?;
-    assert_eq!(rt; fault(alloc, changed.as_slice())?, bad(ImageKind::Schedule, 0));
+    assert_eq!(rt;
+        fault(alloc, changed.as_slice())?,
+        bad(ImageKind::Schedule, 0)
+    );
     let changed = with_number(alloc, file.as_slice(), STEPS, 3)?;
     assert_eq!(rt; fault(alloc, changed.as_slice())?, bad(ImageKind::State, 0));
     let file = later_file(alloc)?;
@@ -120,7 +141,10 @@ fn what_is_wrong_with_the_run_is_named(rt: HostRuntime) -> Result<(), Fail> {
     let changed = with_number(alloc, file, LOG + 4, 2)?;
     assert_eq!(rt; fault(alloc, changed.as_slice())?, bad(ImageKind::State, 0));
     let changed = with_number(alloc, file, LOG + 8, 1)?;
-    assert_eq!(rt; fault(alloc, changed.as_slice())?, bad(ImageKind::Record, 0));
+    assert_eq!(rt;
+        fault(alloc, changed.as_slice())?,
+        bad(ImageKind::Record, 0)
+    );
     let changed = with_number(alloc, file, X, 2)?;
     assert_eq!(rt; fault(alloc, changed.as_slice())?, bad(ImageKind::State, 1));
     let changed = with_number(alloc, file, PLACE, 5)?;

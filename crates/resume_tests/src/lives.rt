@@ -14,13 +14,18 @@ const TICKS: &[u8] = b"ticks,harvest,extra,sample
 80,0,0,12
 20,1,0,12
 ";
+
 const ROWS: &[u8] = b"tick,event,payload\n130,tap,9\n450,tap,8\n";
 
 // Places in a file: the selected slot's numbers, and the log.
 const LEN: usize = 80;
+
 const STEPS: usize = 84;
+
 const PLACE: usize = 88;
+
 const DONE: usize = 124;
+
 const LOG: usize = 208;
 
 // The slot at the end of the life: records, steps, no place, the words, the posts, the done counts.
@@ -91,7 +96,10 @@ fn the_image_of_a_life_is_accepted(rt: HostRuntime) -> Result<(), Fail> {
     let changed = with_number(alloc, file, LEN, 9)?;
     assert_eq!(rt; fault(alloc, changed.as_slice())?, bad(ImageKind::State, 9));
     let changed = with_number(alloc, file, STEPS, 55)?;
-    assert_eq!(rt; fault(alloc, changed.as_slice())?, bad(ImageKind::Schedule, 5));
+    assert_eq!(rt;
+        fault(alloc, changed.as_slice())?,
+        bad(ImageKind::Schedule, 5)
+    );
     Ok(())
 }
 
@@ -101,13 +109,25 @@ fn what_is_wrong_with_a_record_is_named(rt: HostRuntime) -> Result<(), Fail> {
     let file = file_of(alloc, &SLOT)?;
     let file = file.as_slice();
     let changed = with_number(alloc, file, LOG + 16 * 8 + 8, 600)?;
-    assert_eq!(rt; fault(alloc, changed.as_slice())?, bad(ImageKind::Record, 8));
+    assert_eq!(rt;
+        fault(alloc, changed.as_slice())?,
+        bad(ImageKind::Record, 8)
+    );
     let changed = with(alloc, file, LOG + 16 * 3 + 2, &[1])?;
-    assert_eq!(rt; fault(alloc, changed.as_slice())?, bad(ImageKind::Record, 3));
+    assert_eq!(rt;
+        fault(alloc, changed.as_slice())?,
+        bad(ImageKind::Record, 3)
+    );
     let changed = with(alloc, file, LOG + 16 * 4 + 2, &[0])?;
-    assert_eq!(rt; fault(alloc, changed.as_slice())?, bad(ImageKind::Schedule, 2));
+    assert_eq!(rt;
+        fault(alloc, changed.as_slice())?,
+        bad(ImageKind::Schedule, 2)
+    );
     let changed = with_number(alloc, file, LOG + 16 * 3 + 8, 129)?;
-    assert_eq!(rt; fault(alloc, changed.as_slice())?, bad(ImageKind::Schedule, 1));
+    assert_eq!(rt;
+        fault(alloc, changed.as_slice())?,
+        bad(ImageKind::Schedule, 1)
+    );
     let changed = with_number(alloc, file, LOG + 16 * 3 + 12, 1)?;
     assert_eq!(rt; fault(alloc, changed.as_slice())?, bad(ImageKind::State, 3));
     Ok(())
@@ -128,7 +148,10 @@ fn a_place_is_what_it_stands_for(rt: HostRuntime) -> Result<(), Fail> {
     }
     for place in [0, 6, 8, 17, 24] {
         let none = with_number(alloc, file, PLACE, place)?;
-        assert_eq!(rt; fault(alloc, none.as_slice())?, bad(ImageKind::Place, u64::from(place)));
+        assert_eq!(rt;
+            fault(alloc, none.as_slice())?,
+            bad(ImageKind::Place, u64::from(place))
+        );
     }
     Ok(())
 }
