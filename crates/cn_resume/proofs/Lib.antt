@@ -1,16 +1,9 @@
-pub mod Finding
 pub mod Following
-pub mod Frames
 pub mod Items
-pub mod Marks
 pub mod Order
-pub mod Parts
 pub mod Recorded
-pub mod Rows
 pub mod Running
-pub mod Sizing
 pub mod Staging
 pub mod Stepping
 pub mod Taken
-pub mod Tasks
 pub mod Verdict

@@ -1,5 +1,4 @@
 pub mod Fit
-pub mod Places
 pub mod Records
 pub mod Rerun
 pub mod Saved

@@ -3,9 +3,9 @@ use Rattle.cat_program.specs.Body.{Body, tree_of}
 use Rattle.cat_program.specs.Places.{body_size, rest_in, task_marks}
 use Rattle.cat_program.specs.Checked.{body_at}
 use Rattle.cat_eval.specs.declared.state.Frame.{Frame}
-use Rattle.cn_resume.specs.Places.{AreFound}
-use Rattle.cn_resume.proofs.Tasks.{body_short, here, further}
-use Rattle.cn_resume.proofs.places.rest_of.Goals as goal
+use Rattle.cat_eval.specs.Places.{AreFound}
+use Rattle.cat_eval.proofs.TaskPlaces.{body_short, here, further}
+use Rattle.cat_eval.proofs.places.rest_of.Goals as goal
 
 pub block_size-size-requires-clause-short : goal.block_size-size-requires-clause-short
 block_size-size-requires-clause-short c =

@@ -1,6 +1,6 @@
 use Rattle.std.proofs.Common.{◌+◌, ◌*◌}
-use Rattle.cn_resume.proofs.Sizing.{Sizing}
-use Rattle.cn_resume.proofs.sizes.+sizes.Given as goal
+use Rattle.cat_eval.proofs.Sizing.{Sizing}
+use Rattle.cat_eval.proofs.sizes.+sizes.Given as goal
 
 abbrev pub decreases-block_size : goal.decreases-block_size
 decreases-block_size l = 2 * l.b + 2

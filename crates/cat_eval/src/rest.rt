@@ -2,8 +2,8 @@
 
 ghost use Rattle.std.specs.Prelude.{◌≡◌, ◌<◌, ◌↔◌, IsTrue, [], ◌∷◌, length, reverse};
 
+use crate::state::Frame;
 use arrayvec::ArrayVec;
-use cat_eval::Frame;
 use std::marker::Model;
 
 /// Where each open block goes on, the innermost one last.

@@ -1,6 +1,6 @@
 use Rattle.std.proofs.Common.{◌≡◌, ◌+◌, ◌≤◌, drop}
-use Rattle.cn_resume.proofs.Rows.{rows_size}
-use Rattle.cn_resume.proofs.sizes.+expr_size.Given as goal
+use Rattle.cat_eval.proofs.SizeRows.{rows_size}
+use Rattle.cat_eval.proofs.sizes.+expr_size.Given as goal
 
 abbrev pub invariant-loop-further : goal.invariant-loop-further
 invariant-loop-further l =

@@ -1,8 +1,8 @@
 use Rattle.std.proofs.Common.{◌≡◌, Some, sym, ap, ◌∙◌, subst, rules, arith}
 use Rattle.std.specs.Prelude.{slice_get}
 use Rattle.std.proofs.lemmas.Option.{slice_get-get_or}
-use Rattle.cn_resume.proofs.Sizing.{sizing_starts, sizing_short}
-use Rattle.cn_resume.proofs.sizes.+sizes.Goals as goal
+use Rattle.cat_eval.proofs.Sizing.{sizing_starts, sizing_short}
+use Rattle.cat_eval.proofs.sizes.+sizes.Goals as goal
 
 pub block_size-loop-stmt-init : goal.block_size-loop-stmt-init
 block_size-loop-stmt-init t c =

@@ -8,8 +8,8 @@ use Rattle.cat_program.specs.Checked.{Checked, rest_at}
 use Rattle.cat_program.specs.Resting.{RestsAt}
 use Rattle.cat_eval.specs.declared.state.Frame.{Frame}
 use Rattle.cat_eval.specs.Cursor.{frame_body, cursor_body}
-use Rattle.cn_resume.specs.Places.{IsAtStatement, IsLeft, AreAtStatements}
-use Rattle.cn_resume.proofs.Parts.{frame, frame_next}
+use Rattle.cat_eval.specs.Places.{IsAtStatement, IsLeft, AreAtStatements}
+use Rattle.cat_eval.proofs.Parts.{frame, frame_next}
 
 -- where a list's first statement stands
 abbrev name_of : Body → Option Frame

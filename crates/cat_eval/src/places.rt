@@ -4,9 +4,8 @@ ghost use Rattle.std.specs.Prelude.{◌≡◌, ◌<◌, ◌≤◌, ◌+◌, ◌�
 ghost use Rattle.cat_program.specs.Body.{Body, join, tree_of, block_at};
 ghost use Rattle.cat_program.specs.Places.{body_size, marks_of, rest_in, task_marks};
 ghost use Rattle.cat_program.specs.Checked.{EachLower, depth_of, rest_at};
-ghost use Rattle.cat_program.specs.Resting.{RestsAt};
 ghost use Rattle.cat_eval.specs.Cursor.{cursor_body, frame_body};
-ghost use Rattle.cn_resume.specs.Places.{AreAtStatements, AreFound, IsChoiceIn, IsIn, IsStmtIn, Stands, choice_marks};
+ghost use Rattle.cat_eval.specs.Places.{AreAtStatements, AreFound, IsChoiceIn, IsIn, IsStmtIn, Stands, choice_marks};
 
 use crate::rest::Rest;
 use crate::sizes::{block_size, expr_size, stmt_size};
@@ -149,7 +148,7 @@ fn rest_in(program: &Program, body: u32, size: u32, at: u32) -> Option<Rest>
 }
 
 /// What is left at a place of task code, `None` where it stands for no list of statements.
-fn rest_of(program: &Program, pc: u32) -> Option<Rest>
+pub(crate) fn rest_of(program: &Program, pc: u32) -> Option<Rest>
     ensures { AreFound program.now (rest_at program.now pc) result }
 {
     parts_law();
@@ -167,22 +166,8 @@ fn rest_of(program: &Program, pc: u32) -> Option<Rest>
 }
 
 /// Whether a place of task code stands for a list of statements. It takes no memory.
-pub(crate) fn has_rest(program: &Program, pc: u32) -> bool
+pub fn has_rest(program: &Program, pc: u32) -> bool
     ensures { IsTrue result ↔ ((k : Body) × (rest_at program.now pc ≡ Some k)) }
 {
     rest_of(program, pc).is_some()
-}
-
-/// Whether two places, or none, stand for the same. It takes no memory.
-pub(crate) fn same_rest(program: &Program, one: Option<u32>, other: Option<u32>) -> bool
-    ensures { (a b : Option Body) → RestsAt program.now one a → RestsAt program.now other b → (IsTrue result ↔ (a ≡ b)) }
-{
-    match (one, other) {
-        (None, None) => true,
-        (Some(one), Some(other)) => match (rest_of(program, one), rest_of(program, other)) {
-            (Some(one), Some(other)) => one.is(&other),
-            _ => false,
-        },
-        _ => false,
-    }
 }

@@ -7,7 +7,7 @@ use Rattle.cat_program.specs.Body.{Body, with_stmts, tree_of, block_at}
 use Rattle.cat_program.specs.Places.{body_size}
 use Rattle.cat_program.specs.Checked.{EachLower}
 use Rattle.cat_program.specs.PartLaws.{BlocksAreTrees}
-use Rattle.cn_resume.proofs.Parts.{drop_next, one, stmt_size}
+use Rattle.cat_eval.proofs.Parts.{drop_next, one, stmt_size}
 
 -- what was counted of a block, and what is left of it
 pub record Sizing (blocks : List (List Stmt)) (b : ℕ) (ss : List Stmt) (size n : ℕ) : Type 0 where

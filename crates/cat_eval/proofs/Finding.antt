@@ -11,9 +11,9 @@ use Rattle.cat_program.specs.Checked.{Checked, EachLower, NamesLower, depth_of}
 use Rattle.cat_program.specs.PartLaws.{BlocksAreTrees}
 use Rattle.cat_eval.specs.declared.state.Frame.{Frame}
 use Rattle.cat_eval.specs.Cursor.{frame_body, cursor_body}
-use Rattle.cn_resume.specs.Places.{IsAtStatement, AreAtStatements, Stands, IsBefore, IsIn, IsStmtIn, IsChoiceIn, choice_marks}
-use Rattle.cn_resume.proofs.Parts.{one, frame, frame_next, frame_over, frame_first, stmt_join, stmt_size, stmt_depth, stmt_some, depth_some}
-use Rattle.cn_resume.proofs.Marks.{CanStand, head_size, get_front, get_back, marks_length, when_within, choice_within, loop_within, stmt_behind, stmt_first, stmt_none, repeat_none}
+use Rattle.cat_eval.specs.Places.{IsAtStatement, AreAtStatements, Stands, IsBefore, IsIn, IsStmtIn, IsChoiceIn, choice_marks}
+use Rattle.cat_eval.proofs.Parts.{one, frame, frame_next, frame_over, frame_first, stmt_join, stmt_size, stmt_depth, stmt_some, depth_some}
+use Rattle.cat_eval.proofs.Marks.{CanStand, head_size, get_front, get_back, marks_length, when_within, choice_within, loop_within, stmt_behind, stmt_first, stmt_none, repeat_none}
 
 pub stands_as : (p : Checked) (marks marks' : Marks) (i j : ℕ) (told : Bool) (fs : List Frame) → slice_get marks i ≡ slice_get marks' j → Stands p marks' j told fs → Stands p marks i told fs
 stands_as p marks marks' i j told fs e s = record { some = λ y. e ∙ s.some y; at_statements = s.at_statements; none = λ n. e ∙ s.none n }

@@ -10,8 +10,8 @@ use Rattle.cat_program.specs.Checked.{Checked, IsChecked, EachLower, bodies_of, 
 use Rattle.cat_program.specs.PartLaws.{EachPart}
 use Rattle.cat_eval.specs.declared.state.Frame.{Frame}
 use Rattle.cat_eval.specs.Cursor.{cursor_body}
-use Rattle.cn_resume.specs.Places.{IsLeft, Stands, IsIn}
-use Rattle.cn_resume.proofs.Marks.{get_front, get_back, marks_length}
+use Rattle.cat_eval.specs.Places.{IsLeft, Stands, IsIn}
+use Rattle.cat_eval.proofs.Marks.{get_front, get_back, marks_length}
 
 -- ---- one task
 

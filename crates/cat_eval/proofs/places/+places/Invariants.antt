@@ -1,7 +1,7 @@
 use Rattle.std.proofs.Common.{◌≡◌, ◌+◌, ◌*◌}
 use Rattle.std.specs.Prelude.{max}
-use Rattle.cn_resume.proofs.Finding.{Finding}
-use Rattle.cn_resume.proofs.places.+places.Given as goal
+use Rattle.cat_eval.proofs.Finding.{Finding}
+use Rattle.cat_eval.proofs.places.+places.Given as goal
 
 abbrev pub decreases-find : goal.decreases-find
 decreases-find l = 3 * l.b + 2

@@ -3,9 +3,9 @@ use Rattle.cat_program.specs.Body.{Empty, tree_of}
 use Rattle.cat_program.specs.Places.{body_size, marks_of}
 use Rattle.cat_eval.specs.declared.state.Frame.{Frame}
 use Rattle.cat_eval.specs.Cursor.{cursor_body}
-use Rattle.cn_resume.specs.Places.{Stands}
-use Rattle.cn_resume.proofs.Tasks.{task_end, task_found, task_none}
-use Rattle.cn_resume.proofs.places.rest_in.Goals as goal
+use Rattle.cat_eval.specs.Places.{Stands}
+use Rattle.cat_eval.proofs.TaskPlaces.{task_end, task_found, task_none}
+use Rattle.cat_eval.proofs.places.rest_in.Goals as goal
 
 pub returns-then-size-at : goal.returns-then-size-at
 returns-then-size-at c =

@@ -5,11 +5,11 @@ use Rattle.cat_program.specs.Body.{tree_of, block_at}
 use Rattle.cat_program.specs.Places.{body_size, expr_size, marks_of}
 use Rattle.cat_eval.specs.declared.state.Frame.{Frame}
 use Rattle.cat_eval.specs.Cursor.{frame_body, cursor_body}
-use Rattle.cn_resume.specs.Places.{Stands, IsStmtIn}
-use Rattle.cn_resume.proofs.Parts.{frame, one}
+use Rattle.cat_eval.specs.Places.{Stands, IsStmtIn}
+use Rattle.cat_eval.proofs.Parts.{frame, one}
 use Rattle.cat_program.specs.declared.syntax.Stmt.TheVariants.{Set, SetAt, Out, Post, If, While, Repeat}
-use Rattle.cn_resume.proofs.Finding.{finding_starts, finding_short, finding_here, finding_goes, finding_found, finding_over, room_for_one, frame_at, at_first_as, at_none_as, at_plain, at_repeat, test_short, loop_short, when_in, when_stands, choice_in, choice_stands, loop_before, loop_in, loop_stands, loop_back, jump_stands, second_stands}
-use Rattle.cn_resume.proofs.places.+places.Goals as goal
+use Rattle.cat_eval.proofs.Finding.{finding_starts, finding_short, finding_here, finding_goes, finding_found, finding_over, room_for_one, frame_at, at_first_as, at_none_as, at_plain, at_repeat, test_short, loop_short, when_in, when_stands, choice_in, choice_stands, loop_before, loop_in, loop_stands, loop_back, jump_stands, second_stands}
+use Rattle.cat_eval.proofs.places.+places.Goals as goal
 
 pub find-loop-stmt-init : goal.find-loop-stmt-init
 find-loop-stmt-init t c = record {

@@ -7,7 +7,7 @@ use Rattle.cat_program.specs.declared.syntax.Stmt.{Stmt}
 use Rattle.cat_program.specs.declared.syntax.Stmt.TheVariants.{Set, SetAt, Out, Post, If, While, Repeat}
 use Rattle.cat_program.specs.Body.{Simple, SetWord, SetElement, Emit, Raise, Body, Empty, Plain, When, Choice, Loop, Turns, join, with_stmt}
 use Rattle.cat_program.specs.Places.{Marks, body_size, expr_size, operands_size, marked, marks_of}
-use Rattle.cn_resume.proofs.Parts.{one}
+use Rattle.cat_eval.proofs.Parts.{one}
 
 module _ {A : Type 0} where
   pub get_front : (xs ys : List A) (i : ℕ) → i < length xs → slice_get (xs ++ ys) i ≡ slice_get xs i

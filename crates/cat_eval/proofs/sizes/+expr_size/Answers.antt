@@ -2,8 +2,8 @@ use Rattle.std.proofs.Common.{◌≡◌, ◌∙◌, ◌+◌, ◌≤◌, refl, ap
 use Rattle.std.proofs.lemmas.List.{drop_all}
 use Rattle.cat_program.specs.declared.syntax.Expr.{Expr, Chain}
 use Rattle.cat_program.specs.Places.{expr_size}
-use Rattle.cn_resume.proofs.Rows.{rows_size, chain_size_is}
-use Rattle.cn_resume.proofs.sizes.+expr_size.Goals as goal
+use Rattle.cat_eval.proofs.SizeRows.{rows_size, chain_size_is}
+use Rattle.cat_eval.proofs.sizes.+expr_size.Goals as goal
 
 pub loop-further-init : goal.loop-further-init
 loop-further-init t c =
