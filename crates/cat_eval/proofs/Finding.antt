@@ -1,18 +1,19 @@
 -- A place is looked for in a block, statement by statement.
-use Rattle.std.proofs.Common.{◌≡◌, ℕ, zero, suc, ◌+◌, ◌-◌, ◌<◌, ◌≤◌, Bool, true, false, List, [], ◌∷◌, ◌++◌, length, drop, Option, Some, None, refl, sym, ap, ◌∙◌, subst, arith}
+use Rattle.std.proofs.Common.{◌≡◌, ℕ, suc, ◌+◌, ◌-◌, ◌<◌, ◌≤◌, Bool, true, false, List, [], ◌∷◌, ◌++◌, length, Option, Some, None, refl, sym, ap, ◌∙◌, subst, arith}
 use Rattle.std.specs.Prelude.{slice_get}
 use Rattle.std.proofs.lemmas.Option.{slice_get_within}
 use Rattle.cat_program.specs.declared.syntax.Expr.{Expr}
 use Rattle.cat_program.specs.declared.syntax.Stmt.{Stmt}
 use Rattle.cat_program.specs.declared.syntax.Stmt.TheVariants.{If, While, Repeat}
-use Rattle.cat_program.specs.Body.{Body, Empty, join, with_stmt, tree_of, block_at}
+use Rattle.cat_program.specs.Body.{Body, join, with_stmt, tree_of, block_at}
 use Rattle.cat_program.specs.Places.{Marks, body_size, expr_size, marks_of}
-use Rattle.cat_program.specs.Checked.{Checked, EachLower, NamesLower, depth_of}
+use Rattle.cat_program.specs.Checked.{Checked, NamesLower, depth_of}
 use Rattle.cat_program.specs.PartLaws.{BlocksAreTrees}
 use Rattle.cat_eval.specs.declared.state.Frame.{Frame}
 use Rattle.cat_eval.specs.Cursor.{frame_body, cursor_body}
 use Rattle.cat_eval.specs.Places.{IsAtStatement, AreAtStatements, Stands, IsBefore, IsIn, IsStmtIn, IsChoiceIn, choice_marks}
-use Rattle.cat_eval.proofs.Parts.{one, frame, frame_next, frame_over, frame_first, stmt_join, stmt_size, stmt_depth, stmt_some, depth_some}
+use Rattle.cat_eval.proofs.Frames.{frame, frame_next, frame_over, depth_some}
+use Rattle.cat_eval.proofs.Parts.{one, frame_first, stmt_join, stmt_size, stmt_depth, stmt_some}
 use Rattle.cat_eval.proofs.Marks.{CanStand, head_size, get_front, get_back, marks_length, when_within, choice_within, loop_within, stmt_behind, stmt_first, stmt_none, repeat_none}
 
 pub stands_as : (p : Checked) (marks marks' : Marks) (i j : ℕ) (told : Bool) (fs : List Frame) → slice_get marks i ≡ slice_get marks' j → Stands p marks' j told fs → Stands p marks i told fs

@@ -11,3 +11,4 @@ pub mod Marks
 pub mod Finding
 pub mod TaskPlaces
 pub mod Told
+pub mod Leaving

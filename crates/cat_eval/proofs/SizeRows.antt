@@ -1,5 +1,5 @@
 -- The further operands of a chain, as a list.
-use Rattle.std.proofs.Common.{◌≡◌, ℕ, zero, suc, ◌+◌, ◌≤◌, List, [], ◌∷◌, drop, Option, Some, None, refl, ap, ◌∙◌, subst, Vec, Global, arith}
+use Rattle.std.proofs.Common.{◌≡◌, ℕ, zero, suc, ◌+◌, List, [], ◌∷◌, drop, Option, Some, None, refl, ap, ◌∙◌, subst, Vec, Global, arith}
 use Rattle.std.specs.Prelude.{Box, slice_get}
 use Rattle.cat_program.specs.declared.syntax.Expr.{Expr, Number, Payload, Word, Element', Signed', Chain', Chain, Row_of-Further, end_of-Further, more_of-Further, items-the_row-Further, items_hidden-the_row-Further-0}
 use Rattle.cat_program.specs.declared.syntax.Further.{Further}

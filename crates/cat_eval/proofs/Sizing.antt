@@ -1,5 +1,5 @@
 -- The places of a block's statements, one after the other.
-use Rattle.std.proofs.Common.{◌≡◌, ℕ, ◌+◌, ◌<◌, ◌≤◌, List, [], length, drop, Some, sym, ap, ◌∙◌, arith, subst}
+use Rattle.std.proofs.Common.{◌≡◌, ℕ, ◌+◌, ◌<◌, ◌≤◌, List, length, drop, Some, sym, ap, ◌∙◌, arith}
 use Rattle.std.specs.Prelude.{slice_get}
 use Rattle.std.proofs.lemmas.List.{drop_all}
 use Rattle.cat_program.specs.declared.syntax.Stmt.{Stmt}
@@ -7,7 +7,8 @@ use Rattle.cat_program.specs.Body.{Body, with_stmts, tree_of, block_at}
 use Rattle.cat_program.specs.Places.{body_size}
 use Rattle.cat_program.specs.Checked.{EachLower}
 use Rattle.cat_program.specs.PartLaws.{BlocksAreTrees}
-use Rattle.cat_eval.proofs.Parts.{drop_next, one, stmt_size}
+use Rattle.cat_eval.proofs.Frames.{drop_next}
+use Rattle.cat_eval.proofs.Parts.{one, stmt_size}
 
 -- what was counted of a block, and what is left of it
 pub record Sizing (blocks : List (List Stmt)) (b : ℕ) (ss : List Stmt) (size n : ℕ) : Type 0 where

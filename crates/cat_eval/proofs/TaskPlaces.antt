@@ -1,16 +1,14 @@
 -- A place is looked for in the tasks, one after the other.
-use Rattle.std.proofs.Common.{◌≡◌, ℕ, zero, suc, ◌+◌, ◌-◌, ◌<◌, ◌≤◌, Bool, true, false, List, [], ◌∷◌, ◌++◌, length, drop, map, Option, Some, None, refl, sym, ap, ◌∙◌, subst, arith, length-append}
-use Rattle.std.specs.Prelude.{slice_get, slice_index, option_map}
+use Rattle.std.proofs.Common.{◌≡◌, ℕ, zero, suc, ◌+◌, ◌-◌, ◌<◌, ◌≤◌, true, false, List, [], ◌∷◌, ◌++◌, length, drop, map, Some, None, refl, sym, ap, ◌∙◌, arith, length-append}
+use Rattle.std.specs.Prelude.{slice_get, option_map}
 use Rattle.std.specs.Option.{option_and_then}
 use Rattle.std.proofs.lemmas.List.{drop_all}
 use Rattle.std.proofs.lemmas.Option.{slice_get-get_or, slice_get-map}
 use Rattle.cat_program.specs.Body.{Body, Empty, tree_of}
-use Rattle.cat_program.specs.Places.{Marks, body_size, marks_of, task_marks, tasks_marks, task_size, tasks_size, listed, rest_in}
-use Rattle.cat_program.specs.Checked.{Checked, IsChecked, EachLower, bodies_of, body_at, depth_of, rest_at}
-use Rattle.cat_program.specs.PartLaws.{EachPart}
+use Rattle.cat_program.specs.Places.{body_size, marks_of, task_marks, tasks_marks, task_size, tasks_size, listed, rest_in}
+use Rattle.cat_program.specs.Checked.{Checked, IsChecked, bodies_of, body_at, rest_at}
 use Rattle.cat_eval.specs.declared.state.Frame.{Frame}
-use Rattle.cat_eval.specs.Cursor.{cursor_body}
-use Rattle.cat_eval.specs.Places.{IsLeft, Stands, IsIn}
+use Rattle.cat_eval.specs.Places.{IsLeft, Stands}
 use Rattle.cat_eval.proofs.Marks.{get_front, get_back, marks_length}
 
 -- ---- one task

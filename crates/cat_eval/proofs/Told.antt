@@ -1,15 +1,14 @@
 -- Frames at statements are told by the list that they stand for.
-use Rattle.std.proofs.Common.{◌≡◌, ℕ, zero, suc, ◌+◌, ◌<◌, List, [], ◌∷◌, length, drop, Option, Some, None, refl, sym, ap, ◌∙◌, subst, arith}
+use Rattle.std.proofs.Common.{◌≡◌, ℕ, zero, suc, ◌+◌, ◌<◌, List, [], ◌∷◌, length, Option, Some, None, refl, sym, ap, ◌∙◌, subst, arith}
 use Rattle.std.specs.Prelude.{slice_get}
 use Rattle.cat_program.specs.declared.syntax.Stmt.{Stmt}
 use Rattle.cat_program.specs.declared.syntax.Stmt.TheVariants.{Set, SetAt, Out, Post, If, While, Repeat}
-use Rattle.cat_program.specs.Body.{Body, Empty, Plain, When, Choice, Loop, Turns, join, with_stmt, with_stmts, tree_of, block_at}
-use Rattle.cat_program.specs.Checked.{Checked, rest_at}
-use Rattle.cat_program.specs.Resting.{RestsAt}
+use Rattle.cat_program.specs.Body.{Body, Empty, Plain, When, Choice, Loop, Turns, join, with_stmt, tree_of, block_at}
+use Rattle.cat_program.specs.Checked.{Checked}
 use Rattle.cat_eval.specs.declared.state.Frame.{Frame}
 use Rattle.cat_eval.specs.Cursor.{frame_body, cursor_body}
-use Rattle.cat_eval.specs.Places.{IsAtStatement, IsLeft, AreAtStatements}
-use Rattle.cat_eval.proofs.Parts.{frame, frame_next}
+use Rattle.cat_eval.specs.Places.{IsAtStatement, AreAtStatements}
+use Rattle.cat_eval.proofs.Frames.{frame, frame_next}
 
 -- where a list's first statement stands
 abbrev name_of : Body → Option Frame
@@ -70,19 +69,3 @@ frames_told p (f ∷ fs) (g ∷ gs) a b e =
     let here : cursor_body p (g ∷ fs) ≡ cursor_body p (g ∷ gs) = subst (λ x. cursor_body p (x ∷ fs) ≡ cursor_body p (g ∷ gs)) same e in
     let later : fs ≡ gs = frames_told p fs gs a.1 b.1 (join_told (frame_body p g) (cursor_body p fs) (cursor_body p gs) here) in
     ap (λ x. x ∷ fs) same ∙ ap (λ l. g ∷ l) later
-
--- two places stand for the same exactly where the same frames are left there
-rests_alike : (p : Checked) (fs gs : List Frame) (k j : Body) → AreAtStatements p fs → AreAtStatements p gs → Some (cursor_body p fs) ≡ Some k → Some (cursor_body p gs) ≡ Some j → (Yes : Type 0) → (Yes → fs ≡ gs) → (fs ≡ gs → Yes)
-    → (Yes → Some k ≡ Some j) × (Some k ≡ Some j → Yes)
-rests_alike p fs gs k j a b first second Yes told back = (
-  λ y. sym first ∙ ap (λ (l : List Frame). Some (cursor_body p l)) (told y) ∙ second,
-  λ same. (let e : Some (cursor_body p fs) ≡ Some (cursor_body p gs) = first ∙ same ∙ sym second in
-      let one : cursor_body p fs ≡ cursor_body p gs = cc in
-      back (frames_told p fs gs a b one)),
-)
-
-pub rests_told : (p : Checked) (x y : ℕ) (fs gs : List Frame) → IsLeft p (rest_at p x) fs → IsLeft p (rest_at p y) gs → (Yes : Type 0) → (Yes → fs ≡ gs) → (fs ≡ gs → Yes) → (a b : Option Body) → RestsAt p (Some x) a → RestsAt p (Some y) b
-    → (Yes → a ≡ b) × (a ≡ b → Yes)
-rests_told p x y fs gs left right Yes told back (Some k) (Some j) first second = rests_alike p fs gs k j left.at right.at (sym left.body ∙ first) (sym right.body ∙ second) Yes told back
-rests_told p x y fs gs left right Yes told back None b first second = absurd first
-rests_told p x y fs gs left right Yes told back (Some k) None first second = absurd second

@@ -1,4 +1,4 @@
-use Rattle.std.proofs.Common.{◌≡◌, ℕ, List, length, Some, refl, sym, ap, ◌∙◌, ◌+◌, ◌-◌, ◌<◌, ◌≤◌, subst, rules, arith}
+use Rattle.std.proofs.Common.{ℕ, List, length, Some, refl, sym, ap, ◌∙◌, ◌+◌, ◌-◌, ◌<◌, ◌≤◌, subst, rules, arith}
 use Rattle.std.specs.Prelude.{slice_get}
 use Rattle.std.proofs.lemmas.Option.{slice_get-get_or}
 use Rattle.cat_program.specs.Body.{tree_of, block_at}
@@ -6,8 +6,9 @@ use Rattle.cat_program.specs.Places.{body_size, expr_size, marks_of}
 use Rattle.cat_eval.specs.declared.state.Frame.{Frame}
 use Rattle.cat_eval.specs.Cursor.{frame_body, cursor_body}
 use Rattle.cat_eval.specs.Places.{Stands, IsStmtIn}
-use Rattle.cat_eval.proofs.Parts.{frame, one}
-use Rattle.cat_program.specs.declared.syntax.Stmt.TheVariants.{Set, SetAt, Out, Post, If, While, Repeat}
+use Rattle.cat_eval.proofs.Frames.{frame}
+use Rattle.cat_eval.proofs.Parts.{one}
+use Rattle.cat_program.specs.declared.syntax.Stmt.TheVariants.{Set, SetAt, Out, Post, If, While}
 use Rattle.cat_eval.proofs.Finding.{finding_starts, finding_short, finding_here, finding_goes, finding_found, finding_over, room_for_one, frame_at, at_first_as, at_none_as, at_plain, at_repeat, test_short, loop_short, when_in, when_stands, choice_in, choice_stands, loop_before, loop_in, loop_stands, loop_back, jump_stands, second_stands}
 use Rattle.cat_eval.proofs.places.+places.Goals as goal
 

@@ -1,6 +1,6 @@
-use Rattle.std.proofs.Common.{◌≡◌, ◌<◌, ◌≤◌, ◌+◌, ◌-◌, ◌∙◌, Bool, true, false, List, [], sym, ap, subst, arith, rules}
+use Rattle.std.proofs.Common.{◌-◌, Bool, List, subst, arith}
 use Rattle.cat_program.specs.Body.{Empty, tree_of}
-use Rattle.cat_program.specs.Places.{body_size, marks_of}
+use Rattle.cat_program.specs.Places.{marks_of}
 use Rattle.cat_eval.specs.declared.state.Frame.{Frame}
 use Rattle.cat_eval.specs.Cursor.{cursor_body}
 use Rattle.cat_eval.specs.Places.{Stands}

@@ -1,8 +1,7 @@
-use Rattle.std.proofs.Common.{◌≡◌, ◌<◌, ◌≤◌, ◌+◌, ◌∙◌, ℕ, List, Option, length, sym, ap, subst, arith, rules}
+use Rattle.std.proofs.Common.{◌≡◌, ◌<◌, ◌≤◌, ◌∙◌, ℕ, Option, length, sym, ap, subst, arith}
 use Rattle.cat_program.specs.Body.{Body, tree_of}
 use Rattle.cat_program.specs.Places.{body_size, rest_in, task_marks}
 use Rattle.cat_program.specs.Checked.{body_at}
-use Rattle.cat_eval.specs.declared.state.Frame.{Frame}
 use Rattle.cat_eval.specs.Places.{AreFound}
 use Rattle.cat_eval.proofs.TaskPlaces.{body_short, here, further}
 use Rattle.cat_eval.proofs.places.rest_of.Goals as goal
@@ -33,7 +32,7 @@ returns-then-left-size c =
     let lt : c.loop-t.t < length p.tasks = omega (arith, c.loop-t-test.true, c.tasks-t-end.ensures.count) in
     let size : c.block_size-size.result ≡ body_size (body_at p c.loop-t.t) = c.block_size-size.ensures ∙ ap (λ (b : ℕ). body_size (tree_of p.blocks b)) c.body-body.ensures.body in
     let at = here p c.args.pc c.loop-t.left c.loop-t.t lt c.loop-t.invariant (omega (arith, c.if-left-size.true, size)) in
-    let found = rw c.body-body.ensures.body at c.rest_in.ensures in
+    let found = subst (λ (b : ℕ). AreFound p (rest_in (task_marks (tree_of p.blocks b)) c.loop-t.left) c.rest_in.result) c.body-body.ensures.body c.rest_in.ensures in
     subst (λ (k : Option Body). AreFound p k c.rest_in.result) (sym at) found
 
 pub loop-t-preserved : goal.loop-t-preserved

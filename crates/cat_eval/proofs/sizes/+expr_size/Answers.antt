@@ -1,6 +1,6 @@
-use Rattle.std.proofs.Common.{◌≡◌, ◌∙◌, ◌+◌, ◌≤◌, refl, ap, subst, drop, arith}
+use Rattle.std.proofs.Common.{◌∙◌, ◌≤◌, refl, ap, subst, arith}
 use Rattle.std.proofs.lemmas.List.{drop_all}
-use Rattle.cat_program.specs.declared.syntax.Expr.{Expr, Chain}
+use Rattle.cat_program.specs.declared.syntax.Expr.{Expr}
 use Rattle.cat_program.specs.Places.{expr_size}
 use Rattle.cat_eval.proofs.SizeRows.{rows_size, chain_size_is}
 use Rattle.cat_eval.proofs.sizes.+expr_size.Goals as goal
