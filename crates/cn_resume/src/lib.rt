@@ -1,8 +1,19 @@
 //! Saved images: what a device holds when a life ends, as a file from which it can go on.
 #![tactic(auto)]
 
+mod accepting;
+mod fault;
+mod head;
+mod laws;
+mod records;
+mod rerun;
+mod saved;
 mod saving;
 
+pub use accepting::accept;
+pub use fault::{ImageFault, ImageKind};
+pub use laws::one_verdict;
+pub use saved::Saved;
 pub use saving::write_saved;
 
 #[cfg(test)]

@@ -1,0 +1,74 @@
+-- How the run of what was logged ends, and what the slot says.
+use Rattle.std.proofs.Common.{◌≡◌, ◌≢◌, ◌≤◌, ℕ, ℤ, List, [], ◌∷◌, length, Option, refl, sym, ap, ◌∙◌, subst, arith, inl, inr}
+use Rattle.cat_program.specs.declared.outs.LogEntry.{LogEntry}
+use Rattle.cat_program.specs.declared.outs.LogEntry.TheVariants.{Out, Ran}
+use Rattle.cat_program.specs.Body.{Body}
+use Rattle.cat_program.specs.Meaning.{TaskState}
+use Rattle.cat_program.specs.Checked.{Checked, body_at, program_marks}
+use Rattle.cat_machine.specs.Held.{Held}
+use Rattle.cat_machine.specs.Fits.{Corresponds}
+use Rattle.checkpoint_slots.specs.declared.slot.Slot.{Slot}
+use Rattle.checkpoint_slots.specs.Slot.{variables_of}
+use Rattle.reference_run.specs.declared.schedule.Item.{Item}
+use Rattle.reference_run.specs.declared.schedule.Schedule.{Schedule}
+use Rattle.reference_run.specs.Reference.{Setting, Moment, IsReference}
+use Rattle.logged_runs.specs.Own.{items_in, schedule_of}
+use Rattle.cn_resume.specs.declared.fault.ImageFault.TheVariants.{BadImage}
+use Rattle.cn_resume.specs.declared.fault.ImageKind.TheVariants as kind
+use Rattle.cn_resume.specs.Fit.{PartsAt}
+use Rattle.cn_resume.specs.Stages.{RunFault, OtherEnd, said_moment}
+use Rattle.cn_resume.proofs.Stepping.{steps_upto}
+
+-- no more items than entries
+pub items_few : (es : List LogEntry) → length (items_in es) ≤ length es
+items_few [] = omega arith
+items_few (Out channel value ∷ es) = let later = items_few es in omega (arith, later)
+items_few (Ran event version steps start index ∷ es) = let later = items_few es in omega (arith, later)
+
+abbrev moment : TaskState → ℕ → List LogEntry → Moment
+moment state steps entries = record { state = state; steps = steps; entries = entries }
+
+moment_same : (a b : TaskState) (m n : ℕ) (xs ys : List LogEntry) → a ≡ b → m ≡ n → xs ≡ ys → moment a m xs ≡ moment b n ys
+moment_same a b m n xs ys first second third =
+    ap (λ (s : TaskState). moment s m xs) first ∙ ap (λ (k : ℕ). moment b k xs) second ∙ ap (λ (l : List LogEntry). moment b n l) third
+
+module _ (s : Setting) (slot : Slot) (entries : List LogEntry) (current : Option Body) where
+  abbrev Said : Moment
+  Said = said_moment slot entries current
+
+  abbrev Told : Schedule
+  Told = schedule_of entries slot.steps
+
+  -- it ends as the slot says
+  pub run_is : (end : Moment) → IsReference s Told end → end.entries ≡ entries → end.state ≡ Said.state → IsReference s Told Said
+  run_is end is es state =
+      let steps : end.steps ≡ slot.steps = steps_upto (body_at s.program) slot.steps is.begun end is.total in
+      subst (IsReference s Told) (moment_same end.state Said.state end.steps slot.steps end.entries entries state steps es) is
+
+  -- it ends with other entries
+  pub other_entries : (end : Moment) (at : ℕ) → IsReference s Told end → PartsAt end.entries entries at → RunFault s Told Said (BadImage kind.State at)
+  other_entries end at is parts = OtherEnd at end is (inl parts)
+
+  -- it ends in another state
+  pub other_state : (end : Moment) → IsReference s Told end → end.entries ≡ entries → end.state ≢ Said.state → RunFault s Told Said (BadImage kind.State (length entries))
+  other_state end is es differ = OtherEnd (length entries) end is (inr (es, (differ, refl)))
+
+-- the state that the machine corresponds to is the slot's where words, posts and list are
+module _ (p : Checked) (h : Held) (slot : Slot) (s : TaskState) (current : Option Body) (c : Corresponds (program_marks p) h s) where
+  abbrev state_with : List ℤ → List ℕ → Option Body → TaskState
+  state_with words posts list = record { store = record { words = words; posts = posts }; current = list }
+
+  pub state_is : h.words ≡ variables_of slot → h.posts ≡ slot.posts → s.current ≡ current → s ≡ state_with (variables_of slot) slot.posts current
+  state_is words posts list =
+      ap (λ (w : List ℤ). state_with w s.store.posts s.current) (sym c.words ∙ words)
+      ∙ ap (λ (q : List ℕ). state_with (variables_of slot) q s.current) (sym c.posts ∙ posts)
+      ∙ ap (λ (k : Option Body). state_with (variables_of slot) slot.posts k) list
+
+  pub words_are : s ≡ state_with (variables_of slot) slot.posts current → h.words ≡ variables_of slot
+  words_are e = c.words ∙ ap (λ (x : TaskState). x.store.words) e
+
+  pub posts_are : s ≡ state_with (variables_of slot) slot.posts current → h.posts ≡ slot.posts
+  posts_are e = c.posts ∙ ap (λ (x : TaskState). x.store.posts) e
+
+  pub list_is : s ≡ state_with (variables_of slot) slot.posts current → s.current ≡ current
+  list_is e = ap (λ (x : TaskState). x.current) e

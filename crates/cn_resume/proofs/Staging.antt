@@ -1,0 +1,96 @@
+-- What is found out about an image decides its conditions one after the other.
+use Rattle.std.proofs.Common.{◌≡◌, ◌≤◌, ◌<◌, ℕ, List, length, length-drop, Option, Some, None, refl, sym, ap, ◌∙◌, subst, arith}
+use Rattle.std.specs.Option.{option_and_then}
+use Rattle.cat_program.specs.declared.outs.LogEntry.{LogEntry}
+use Rattle.cat_program.specs.Body.{Body}
+use Rattle.cat_program.specs.Checked.{Checked, rest_at}
+use Rattle.cat_program.specs.Resting.{RestsAt}
+use Rattle.nv_memory.specs.declared.layout.Layout.{Layout}
+use Rattle.nv_memory.specs.Layout.{size_of}
+use Rattle.checkpoint_slots.specs.declared.slot.Slot.{Slot}
+use Rattle.reference_run.specs.Reference.{Setting, IsReference}
+use Rattle.logged_runs.specs.Own.{schedule_of}
+use Rattle.cn_resume.specs.declared.fault.ImageFault.{ImageFault}
+use Rattle.cn_resume.specs.declared.fault.ImageFault.TheVariants.{BadImage, NoMemory}
+use Rattle.cn_resume.specs.declared.fault.ImageKind.TheVariants as kind
+use Rattle.cn_resume.specs.Records.{entries_in}
+use Rattle.cn_resume.specs.Fit.{Purpose, HasSize, HoldsBefore, IsFit, IsRefused, purpose_of, tick_in, image_in, slot_in, logged_in, current_in, moment_in, schedule_in}
+use Rattle.cn_resume.specs.Stages.{IsSlotRead, SlotFault, NotFormed, TooManySteps, NoRest, IsLogRead, LogFault, BadRecord, BadCount, NoRoom, RunFault, NoRun, OtherEnd, NoRoom', said_moment}
+use Rattle.cn_resume.proofs.Order.{one_further, all_hold}
+
+-- what a place stands for is one
+current_is : (program : Checked) (pc : Option ℕ) (current : Option Body) → RestsAt program pc current → current ≡ option_and_then (rest_at program) pc
+current_is program None None rests = refl
+current_is program (Some pc) (Some k) rests = sym rests
+current_is program None (Some k) rests = absurd rests
+current_is program (Some pc) None rests = absurd rests
+
+module _ (s : Setting) (l : Layout) (cap life : ℕ) (file : List ℕ) where
+  abbrev P : Purpose
+  P = purpose_of s l cap life
+
+  -- what the head says of the rest
+  pub sized : HoldsBefore P file kind.Slot → HasSize l file
+  sized before = before kind.Size (omega arith)
+
+  pub in_life : HoldsBefore P file kind.Slot → tick_in file ≤ life
+  in_life before = before kind.Tick (omega arith)
+
+  pub image_length : HoldsBefore P file kind.Slot → length (image_in file) ≡ size_of l
+  image_length before = let whole = (sized before).size in let cut = length-drop 16 file in omega (arith, whole, cut)
+
+  pub slot_refused : (fault : ImageFault) → HoldsBefore P file kind.Slot → SlotFault l s.program (tick_in file) (image_in file) fault → IsRefused P file fault
+  slot_refused fault before (NotFormed no) = record { earlier = before; fails = (no, refl) }
+  slot_refused fault before (TooManySteps formed lt) = record { earlier = one_further P file kind.Slot kind.Steps refl before formed; fails = ((λ le. absurd (omega (arith, le, lt))), refl) }
+  slot_refused fault before (NoRest pc formed le is no) =
+      record { earlier = one_further P file kind.Steps kind.Place refl (one_further P file kind.Slot kind.Steps refl before formed) le; fails = (no, is) }
+
+  module _ (slot : Slot) (read : IsSlotRead l s.program (tick_in file) (image_in file) slot) where
+    pub after_slot : HoldsBefore P file kind.Slot → HoldsBefore P file kind.Record
+    after_slot before =
+        let steps : (slot_in P file).steps ≤ tick_in file = subst (λ (x : Slot). x.steps ≤ tick_in file) read.slot_is read.steps in
+        let rests : (current : Option Body) × RestsAt s.program (slot_in P file).pc current = subst (λ (x : Slot). (current : Option Body) × RestsAt s.program x.pc current) read.slot_is read.rests in
+        one_further P file kind.Place kind.Record refl (one_further P file kind.Steps kind.Place refl (one_further P file kind.Slot kind.Steps refl before read.formed) steps) rests
+
+    pub log_refused : (fault : ImageFault) → HoldsBefore P file kind.Record → LogFault l s.program (tick_in file) (image_in file) slot fault → IsRefused P file fault
+    log_refused fault before bad = go fault (subst (λ (x : Slot). LogFault l s.program (tick_in file) (image_in file) x fault) read.slot_is bad)
+      where
+        go : (f : ImageFault) → LogFault l s.program (tick_in file) (image_in file) (slot_in P file) f → IsRefused P file f
+        go f (BadRecord at first) = record { earlier = before; fails = first }
+        go f (BadCount at good first) = record { earlier = one_further P file kind.Record kind.Done refl before good; fails = first }
+        go f NoRoom = tt
+
+    module _ (entries : List LogEntry) (log : IsLogRead l s.program (tick_in file) (image_in file) slot entries) where
+      pub logged_is : entries ≡ logged_in P file
+      logged_is = log.entries_are ∙ ap (λ (x : Slot). entries_in l (image_in file) x.len) read.slot_is
+
+      pub after_log : HoldsBefore P file kind.Record → HoldsBefore P file kind.Schedule
+      after_log before =
+          let own = subst (λ (x : Slot). IsLogRead l s.program (tick_in file) (image_in file) x entries) read.slot_is log in
+          let good = subst (λ (es : List LogEntry). IsLogRead l s.program (tick_in file) (image_in file) (slot_in P file) es) logged_is own in
+          one_further P file kind.Done kind.Schedule refl (one_further P file kind.Record kind.Done refl before good.records) good.counts
+
+      said_is : (current : Option Body) → RestsAt s.program slot.pc current → said_moment slot entries current ≡ moment_in P file
+      said_is current rests =
+          let now : current ≡ current_in P file = current_is s.program slot.pc current rests ∙ ap (λ (x : Slot). option_and_then (rest_at s.program) x.pc) read.slot_is in
+          ap (said_moment slot entries) now ∙ ap (λ (es : List LogEntry). said_moment slot es (current_in P file)) logged_is ∙ ap (λ (x : Slot). said_moment x (logged_in P file) (current_in P file)) read.slot_is
+
+      schedule_is : schedule_of entries slot.steps ≡ schedule_in P file
+      schedule_is = ap (λ (es : List LogEntry). schedule_of es slot.steps) logged_is ∙ ap (λ (x : Slot). schedule_of (logged_in P file) x.steps) read.slot_is
+
+      pub run_refused : (fault : ImageFault) (current : Option Body) → RestsAt s.program slot.pc current → HoldsBefore P file kind.Schedule
+          → RunFault s (schedule_of entries slot.steps) (said_moment slot entries current) fault → IsRefused P file fault
+      run_refused fault current rests before bad =
+          let here = subst (λ x. RunFault s x (said_moment slot entries current) fault) schedule_is bad in
+          go fault (subst (λ x. RunFault s (schedule_in P file) x fault) (said_is current rests) here)
+        where
+          go : (f : ImageFault) → RunFault s (schedule_in P file) (moment_in P file) f → IsRefused P file f
+          go f (NoRun at no) = record { earlier = before; fails = no }
+          go f (OtherEnd at end is other) = record { earlier = one_further P file kind.Schedule kind.State refl before (end, is); fails = (end, (is, other)) }
+          go f NoRoom' = tt
+
+      pub fits : (current : Option Body) → RestsAt s.program slot.pc current → HoldsBefore P file kind.Schedule → IsReference s (schedule_of entries slot.steps) (said_moment slot entries current) → IsFit P file
+      fits current rests before is =
+          let here = subst (λ x. IsReference s x (said_moment slot entries current)) schedule_is is in
+          let own = subst (λ x. IsReference s (schedule_in P file) x) (said_is current rests) here in
+          all_hold P file (one_further P file kind.Schedule kind.State refl before (moment_in P file, own)) own
