@@ -4,11 +4,11 @@ use Rattle.std.specs.Prelude.{map, replicate, slice_get, slice_index, if◌then�
 use Rattle.std.specs.Option.{option_and_then}
 use Rattle.cat_program.specs.declared.syntax.Stmt.{Stmt}
 use Rattle.cat_program.specs.declared.syntax.Stmt.TheVariants.{Set, SetAt, Out, Post, If, While, Repeat}
-use Rattle.cat_program.specs.Value.{is_nought}
+use Rattle.cat_program.specs.Value.{is_nought, value_of}
 use Rattle.cat_program.specs.Body.{Body, Empty, Plain, When, Choice, Loop, Turns, join, with_stmt, with_stmts, block_at, tree_to, tree_of}
-use Rattle.cat_program.specs.Places.{Marks, marked, marks_of, tasks_marks, rest_in}
+use Rattle.cat_program.specs.Places.{expr_size, operands_size, body_size, Marks, marked, marks_of, tasks_marks, rest_in}
 use Rattle.cat_program.specs.Meaning.{Store, TaskState, TaskStep, chosen, list_step, first_posted, taken, step_from, task_step_of}
-use Rattle.cat_program.specs.Checked.{Checked, body_at, bodies_of, rest_at}
+use Rattle.cat_program.specs.Checked.{Checked, body_at, rest_at}
 use Rattle.same_program.specs.Alike.{IsLike, ends, simple, when, choice, loop, turns, ListIsLike, neither, both}
 use Rattle.same_program.specs.Own.{simple_of, test_of, IsOwn, IsOwnList}
 
@@ -87,53 +87,58 @@ one_list p (Some k) (Some l) x y (both like) = ap Some (one_own p.blocks like x 
 one_list p None (Some l) x y like = elim like [ ]
 one_list p (Some k) None x y like = elim like [ ]
 
+-- each place stands for a list of the program's own, or for none
+data AreOwn (p : Checked) : Marks → Type 0 where
+  no_more : AreOwn p []
+  more : {list : Option Body} {marks : Marks} → IsOwnList p list → AreOwn p marks → AreOwn p (list ∷ marks)
+
 module _ (p : Checked) where
   -- ---- places
 
-  abbrev AreOwn : Marks → Type 0
-  AreOwn [] = Unit {0}
-  AreOwn (list ∷ marks) = IsOwnList p list × AreOwn marks
+  append : {m n : Marks} → AreOwn p m → AreOwn p n → AreOwn p (m ++ n)
+  append no_more after = after
+  append (more own rest) after = more own (append rest after)
 
-  append : (m n : Marks) → AreOwn m → AreOwn n → AreOwn (m ++ n)
-  append [] n own after = after
-  append (list ∷ m) n own after = (own.0, append m n own.1 after)
+  nothing : (n : ℕ) → AreOwn p (replicate n None)
+  nothing zero = no_more
+  nothing (suc n) = more tt (nothing n)
 
-  nothing : (n : ℕ) → AreOwn (replicate n None)
-  nothing zero = tt
-  nothing (suc n) = (tt, nothing n)
+  one_mark : (k : Body) {marks : Marks} → IsOwn p.blocks k → AreOwn p marks → AreOwn p (Some k ∷ marks)
+  one_mark k own rest = more own rest
 
-  marked_own : (k : Body) (n : ℕ) → IsOwn p.blocks k → AreOwn (marked k n)
-  marked_own k n own = (own, nothing n)
+  marked_own : (k : Body) (n : ℕ) → IsOwn p.blocks k → AreOwn p (marked k n)
+  marked_own k n own = one_mark k own (nothing n)
 
-  marks_own : (a k : Body) → IsOwn p.blocks a → IsOwn p.blocks k → AreOwn (marks_of a k)
-  marks_own Empty k own after = tt
+  marks_own : (a k : Body) → IsOwn p.blocks a → IsOwn p.blocks k → AreOwn p (marks_of a k)
+  marks_own Empty k own after = no_more
   marks_own (Plain b i s rest) k own after =
-      append _ _ (marked_own _ _ (own.0, join_own p.blocks rest k own.1 after)) (marks_own rest k own.1 after)
+      append (marked_own (Plain b i s (join rest k)) (operands_size s) (own.0, join_own p.blocks rest k own.1 after)) (marks_own rest k own.1 after)
   marks_own (When b i e on rest) k own after =
-      let then = join_own p.blocks rest k own.2 after in
-      append _ _ (marked_own _ _ (own.0, own.1, then)) (append _ _ (marks_own on (join rest k) own.1 then) (marks_own rest k own.2 after))
+      let next = join_own p.blocks rest k own.2 after in
+      append (marked_own (When b i e on (join rest k)) (expr_size e) (own.0, own.1, next)) (append (marks_own on (join rest k) own.1 next) (marks_own rest k own.2 after))
   marks_own (Choice b i e on off rest) k own after =
-      let then = join_own p.blocks rest k own.3 after in
-      append _ _ (marked_own _ _ (own.0, own.1, own.2, then))
-      (append _ _ (marks_own on (join rest k) own.1 then)
-      (then, append _ _ (marks_own off (join rest k) own.2 then) (marks_own rest k own.3 after)))
+      let next = join_own p.blocks rest k own.3 after in
+      let second = append (marks_own off (join rest k) own.2 next) (marks_own rest k own.3 after) in
+      append (marked_own (Choice b i e on off (join rest k)) (expr_size e) (own.0, own.1, own.2, next))
+      (append (marks_own on (join rest k) own.1 next) (one_mark (join rest k) next second))
   marks_own (Loop b i e body rest) k own after =
       let again : IsOwn p.blocks (Loop b i e body (join rest k)) = (own.0, own.1, join_own p.blocks rest k own.2 after) in
-      append _ _ (marked_own _ _ again) (append _ _ (marks_own body (Loop b i e body (join rest k)) own.1 again) (again, marks_own rest k own.2 after))
-  marks_own (Turns b i n body rest) k own after = append _ _ (nothing _) (marks_own rest k own.1 after)
+      append (marked_own (Loop b i e body (join rest k)) (expr_size e) again)
+      (append (marks_own body (Loop b i e body (join rest k)) own.1 again) (one_mark (Loop b i e body (join rest k)) again (marks_own rest k own.2 after)))
+  marks_own (Turns b i n body rest) k own after = append (nothing (2 + body_size body + 1)) (marks_own rest k own.1 after)
 
-  tasks_own : (bs : List ℕ) → AreOwn (tasks_marks (map (tree_of p.blocks) bs))
-  tasks_own [] = tt
+  tasks_own : (bs : List ℕ) → AreOwn p (tasks_marks (map (tree_of p.blocks) bs))
+  tasks_own [] = no_more
   tasks_own (b ∷ bs) =
-      (tt, append _ _ (append _ (Some Empty ∷ []) (marks_own (tree_of p.blocks b) Empty (tree_own p.blocks b) tt) (tt, tt)) (tasks_own bs))
+      more tt (append (append (marks_own (tree_of p.blocks b) Empty (tree_own p.blocks b) tt) (one_mark Empty tt no_more)) (tasks_own bs))
 
-  rest_own : (marks : Marks) (pc : ℕ) → AreOwn marks → IsOwnList p (rest_in marks pc)
-  rest_own [] pc own = tt
-  rest_own (list ∷ marks) zero own = own.0
-  rest_own (list ∷ marks) (suc pc) own = rest_own marks pc own.1
+  rest_own : {marks : Marks} → AreOwn p marks → (pc : ℕ) → IsOwnList p (rest_in marks pc)
+  rest_own no_more pc = tt
+  rest_own (more own rest) zero = own
+  rest_own (more own rest) (suc pc) = rest_own rest pc
 
   pub own_place : (pc : ℕ) → IsOwnList p (rest_at p pc)
-  own_place pc = rest_own (tasks_marks (bodies_of p)) pc (tasks_own p.tasks)
+  own_place pc = rest_own (tasks_own p.tasks) pc
 
   -- ---- steps
 
@@ -147,11 +152,11 @@ module _ (p : Checked) where
   list_own : (k : Body) (s : Store) → IsOwn p.blocks k → IsOwnList p (list_step k s).after.current
   list_own Empty s own = tt
   list_own (Plain b i a rest) s own = own.1
-  list_own (When b i e on rest) s own = chosen_own _ (join on rest) rest (join_own p.blocks on rest own.1 own.2) own.2
+  list_own (When b i e on rest) s own = chosen_own (value_of e s.words (pos 0)) (join on rest) rest (join_own p.blocks on rest own.1 own.2) own.2
   list_own (Choice b i e on off rest) s own =
-      chosen_own _ (join on rest) (join off rest) (join_own p.blocks on rest own.1 own.3) (join_own p.blocks off rest own.2 own.3)
+      chosen_own (value_of e s.words (pos 0)) (join on rest) (join off rest) (join_own p.blocks on rest own.1 own.3) (join_own p.blocks off rest own.2 own.3)
   list_own (Loop b i e body rest) s own =
-      chosen_own _ (join body (Loop b i e body rest)) rest (join_own p.blocks body (Loop b i e body rest) own.1 own) own.2
+      chosen_own (value_of e s.words (pos 0)) (join body (Loop b i e body rest)) rest (join_own p.blocks body (Loop b i e body rest) own.1 own) own.2
   list_own (Turns b i n body rest) s own = own.1
 
   led : (one step : TaskStep) → Some one ≡ Some step → IsOwnList p one.after.current → IsOwnList p step.after.current

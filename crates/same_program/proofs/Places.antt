@@ -37,12 +37,12 @@ marks_like : {a b k l : Body} → IsLike a b → IsLike k l → MarksAreLike (ma
 marks_like ends rest = no_more
 marks_like (simple a next) rest = append (marked_like (simple a (join_like next rest)) _ _ (simple_size a)) (marks_like next rest)
 marks_like (when {e = e} {f = f} a on next) rest =
-    let then = join_like next rest in
-    append (marked_like (when a on then) _ _ (same_size e f a)) (append (marks_like on then) (marks_like next rest))
+    let after = join_like next rest in
+    append (marked_like (when a on after) _ _ (same_size e f a)) (append (marks_like on after) (marks_like next rest))
 marks_like (choice {e = e} {f = f} a on off next) rest =
-    let then = join_like next rest in
-    append (marked_like (choice a on off then) _ _ (same_size e f a))
-    (append (marks_like on then) (more (both then) (append (marks_like off then) (marks_like next rest))))
+    let after = join_like next rest in
+    append (marked_like (choice a on off after) _ _ (same_size e f a))
+    (append (marks_like on after) (more (both after) (append (marks_like off after) (marks_like next rest))))
 marks_like (loop {e = e} {f = f} a body next) rest =
     let again = loop a body (join_like next rest) in
     append (marked_like again _ _ (same_size e f a)) (append (marks_like body again) (more (both again) (marks_like next rest)))
