@@ -6,6 +6,7 @@ ghost use Rattle.cn_resume.specs.declared.fault.ImageKind.{ImageKind as TheKind}
 ghost use Rattle.cn_resume.specs.Fit.{IsFirstFault, IsFit, IsRefused, Purpose};
 ghost use Rattle.same_runs.specs.Alike.{AreSamePurposes, AreSameSettings, MomentIsLike};
 
+use reference_run::one_reference;
 use same_program::{alike_law, own_lists_law, same_places_law, same_steps_law};
 
 /// In settings whose programs say the same, a schedule has a reference run in both or in none, the ends are alike, and a fault
@@ -15,6 +16,8 @@ pub fn same_runs_law()
     ensures ends { (s t : Setting) (schedule : Schedule) (a b : Moment) → AreSameSettings s t → IsReference s schedule a → IsReference t schedule b → MomentIsLike a b }
     ensures faults { (s t : Setting) (schedule : Schedule) (i : ℕ) → AreSameSettings s t → HasFault s schedule i ↔ HasFault t schedule i }
 {
+    alike_law();
+    one_reference();
     same_steps_law();
 }
 
@@ -28,5 +31,4 @@ pub fn same_images_law()
     own_lists_law();
     same_places_law();
     same_steps_law();
-    same_runs_law();
 }
