@@ -9,7 +9,7 @@ use Rattle.cat_program.specs.Body.{Body, Empty, Plain, When, Choice, Loop, Turns
 use Rattle.cat_program.specs.Places.{expr_size, operands_size, body_size, Marks, marked, marks_of, tasks_marks, rest_in}
 use Rattle.cat_program.specs.Meaning.{Store, TaskState, TaskStep, chosen, list_step, first_posted, taken, step_from, task_step_of}
 use Rattle.cat_program.specs.Checked.{Checked, body_at, rest_at}
-use Rattle.same_program.specs.Alike.{IsLike, ends, simple, when, choice, loop, turns, ListIsLike, neither, both}
+use Rattle.same_program.specs.Alike.{IsLike, ends, simple, when, choice, loop, turns, ListIsLike, both}
 use Rattle.same_program.specs.Own.{simple_of, test_of, IsOwn, IsOwnList}
 
 some_same : {A : Type 0} {x y : A} → Some x ≡ Some y → x ≡ y

@@ -1,9 +1,9 @@
 -- What the places of code stand for in programs that say the same.
-use Rattle.std.proofs.Common.{◌≡◌, ℕ, zero, suc, ◌+◌, List, [], ◌∷◌, ◌++◌, Option, Some, None, refl, ap, sym, subst, arith}
+use Rattle.std.proofs.Common.{◌≡◌, ℕ, zero, suc, ◌+◌, List, [], ◌∷◌, ◌++◌, Option, Some, None, refl, subst, arith}
 use Rattle.std.specs.Prelude.{map, replicate}
 use Rattle.cat_program.specs.declared.syntax.Stmt.{Stmt}
-use Rattle.cat_program.specs.Body.{Body, join, tree_of}
-use Rattle.cat_program.specs.Places.{Marks, marked, marks_of, task_marks, tasks_marks, rest_in, body_size}
+use Rattle.cat_program.specs.Body.{Body, tree_of}
+use Rattle.cat_program.specs.Places.{Marks, marked, marks_of, tasks_marks, rest_in, body_size}
 use Rattle.cat_program.specs.Checked.{Checked, rest_at}
 use Rattle.cat_program.specs.Resting.{RestsAt}
 use Rattle.cat_resolve.specs.Form.{commands}

@@ -3,7 +3,7 @@ use Rattle.std.specs.Prelude.{◌≡◌, ℕ, List, Option, Some, None, slice_ge
 use Rattle.std.specs.Option.{option_and_then}
 use Rattle.cat_program.specs.declared.syntax.Expr.{Expr}
 use Rattle.cat_program.specs.declared.syntax.Stmt.{Stmt}
-use Rattle.cat_program.specs.declared.syntax.Stmt.TheVariants.{Set, SetAt, Out, Post, If, While, Repeat}
+use Rattle.cat_program.specs.declared.syntax.Stmt.TheVariants.{Set, SetAt, Out, Post, If, While}
 use Rattle.cat_program.specs.Body.{Simple, SetWord, SetElement, Emit, Raise, Body, Empty, Plain, When, Choice, Loop, Turns, block_at}
 use Rattle.cat_program.specs.Checked.{Checked}
 use Rattle.cat_program.specs.Resting.{RestsAt}

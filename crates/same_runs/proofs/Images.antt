@@ -113,9 +113,9 @@ module _ (laws : Laws) (layout : Layout) (cap life : ℕ) where
           inr (
             sym like.entries ∙ state.0,
             (λ e.
-            let back = laws.likeness.turned (said s).state (said t).state said_like.state in
-            let alike = laws.likeness.onward end.state (said t).state (said s).state (subst (λ x. StateIsLike end.state x) e like.state) back in
-            state.1 (state_one laws.lists s.program end.state (said s).state own (said_own s) alike)),
+                let back = laws.likeness.turned (said s).state (said t).state said_like.state in
+                let alike = laws.likeness.onward end.state (said t).state (said s).state (subst (λ x. StateIsLike end.state x) e like.state) back in
+                state.1 (state_one laws.lists s.program end.state (said s).state own (said_own s) alike)),
             state.2,
           )
 

@@ -190,8 +190,8 @@ module _ (given : SameSteps) (likeness : Likeness) (s t : Setting) (same : AreSa
         before = before.other;
         run = before.run;
         stuck = λ after leads.
-        let back = leads_like given t s (same_turned s t same) earlier broken.item before.other broken.before after (moment_turned broken.before before.other before.like) leads in
-        broken.stuck back.other back.leads;
+            let back = leads_like given t s (same_turned s t same) earlier broken.item before.other broken.before after (moment_turned broken.before before.other before.like) leads in
+            broken.stuck back.other back.leads;
       })
   fault_like schedule i (inr short) =
       let before = run_like given s t same (reverse schedule.items) short.before short.run in
