@@ -1,5 +1,5 @@
 -- What is said of a saved image for programs that say the same.
-use Rattle.std.proofs.Common.{◌≡◌, ◌<◌, ℕ, ◌⊎◌, inl, inr, List, length, Option, Some, None, refl, ap, sym, ◌∙◌, subst}
+use Rattle.std.proofs.Common.{◌≡◌, ◌<◌, ℕ, ◌⊎◌, inl, inr, List, [], length, take, Option, Some, None, refl, ap, sym, ◌∙◌, subst}
 use Rattle.std.specs.Prelude.{◌≢◌, ◌↔◌, slice_get, unwrap_or}
 use Rattle.std.specs.Option.{option_and_then}
 use Rattle.cat_program.specs.declared.outs.LogEntry.{LogEntry}
