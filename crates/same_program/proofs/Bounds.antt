@@ -1,8 +1,7 @@
 -- The bounds of programs that say the same, on a device.
-use Rattle.std.proofs.Common.{◌≡◌, ℕ, suc, ◌+◌, ◌*◌, ◌≤◌, List, [], ◌∷◌, length, Option, Some, None, inl, inr, refl, ap, sym, ◌∙◌, subst, arith}
+use Rattle.std.proofs.Common.{◌≡◌, ℕ, suc, ◌≤◌, List, [], ◌∷◌, length, Option, Some, None, inl, inr, refl, ap, sym, ◌∙◌, subst, arith}
 use Rattle.std.specs.Prelude.{map, slice_get, unwrap_or}
 use Rattle.cat_program.specs.declared.syntax.Class.{Class}
-use Rattle.cat_program.specs.declared.syntax.Class.TheVariants.{Basic, Memory, Out}
 use Rattle.cat_program.specs.Places.{tasks_size}
 use Rattle.cat_program.specs.Checked.{Checked, bodies_of}
 use Rattle.nv_memory.specs.declared.device.Device.{Device}
@@ -14,7 +13,7 @@ use Rattle.cat_machine.specs.Costs.{Costs, instr_cost, place_cost, path_cost}
 use Rattle.cost_bounds.specs.declared.job.Job.{Job}
 use Rattle.cost_bounds.specs.BoundsValue.{BoundsValue}
 use Rattle.cost_bounds.specs.Paths.{SectionFrom, HandlerFrom, IsSection, IsHandler}
-use Rattle.cost_bounds.specs.Greatest.{units_of, ticks_of, sum_over, IsGreatest, AreGreatest, times, whole_job, IsJob, AreBounds}
+use Rattle.cost_bounds.specs.Greatest.{units_of, ticks_of, sum_over, IsGreatest, AreGreatest, whole_job, IsJob, AreBounds}
 use Rattle.same_program.specs.Same.{IsSame}
 use Rattle.same_program.proofs.Codes.{code_same, same_tasks_size}
 

@@ -1,6 +1,6 @@
 -- There is one choice of versions, or one reason for none.
 use Rattle.std.proofs.Common.{◌≡◌, ℕ, zero, suc, ◌+◌, ◌≤◌, ◌<◌, List, [], ◌∷◌, length, take, drop, All, inl, inr, refl, ap, sym, ◌∙◌, subst, arith}
-use Rattle.std.specs.Prelude.{◌==◌, ◌≢◌, cond, map, max, slice_get, slice_index_or, Some}
+use Rattle.std.specs.Prelude.{◌==◌, ◌≢◌, cond, map, slice_get, slice_index_or, Some}
 use Rattle.std.specs.Int.{◌∣◌}
 use Rattle.std.proofs.lemmas.Bool.{cases_lt}
 use Rattle.std.proofs.lemmas.List.{length-map, map-append, take-take}
@@ -11,7 +11,7 @@ use Rattle.cat_program.specs.Declares.{spacing_of, EachEventIs, EachDegrades}
 use Rattle.cat_program.specs.Checked.{Checked, IsChecked}
 use Rattle.nv_memory.specs.declared.device.Device.{Device}
 use Rattle.cost_bounds.specs.declared.job.Job.{Job}
-use Rattle.cost_bounds.specs.BoundsValue.{BoundsValue, longest_of}
+use Rattle.cost_bounds.specs.BoundsValue.{BoundsValue}
 use Rattle.demand_core.specs.declared.Load.{Load}
 use Rattle.demand_core.specs.declared.Base.{Base}
 use Rattle.demand_core.specs.Demand.{IsWindow, IsFeasible, reserve}

@@ -18,7 +18,7 @@ use Rattle.same_program.specs.Alike.{SimpleIsLike, sets, sets_at, emits, raises,
 use Rattle.same_program.proofs.Expressions.{same_size, same_code}
 use Rattle.same_program.proofs.Bodies.{trees_like}
 
-simple_size : {s t : Simple} → SimpleIsLike s t → operands_size s ≡ operands_size t
+pub simple_size : {s t : Simple} → SimpleIsLike s t → operands_size s ≡ operands_size t
 simple_size (sets {e = e} {f = f} a same) = same_size e f same
 simple_size (sets_at {i = i} {j = j} {e = e} {f = f} a b c same) = omega (arith, same_size i j c, same_size e f same)
 simple_size (emits {e = e} {f = f} a same) = same_size e f same
@@ -36,7 +36,7 @@ simple_last (sets_at {b = b} {m = m} a c d same) = ap (λ n. i.StoreAt n m) a �
 simple_last (emits a same) = ap i.Out a
 simple_last (raises a) = ap i.Post a
 
-body_same_size : {k l : Body} → IsLike k l → body_size k ≡ body_size l
+pub body_same_size : {k l : Body} → IsLike k l → body_size k ≡ body_size l
 body_same_size ends = refl
 body_same_size (simple a rest) = omega (arith, simple_size a, body_same_size rest)
 body_same_size (when {e = e} {f = f} a on rest) = omega (arith, same_size e f a, body_same_size on, body_same_size rest)

@@ -6,3 +6,6 @@ pub mod Programs
 pub mod Bounds
 pub mod Verdicts
 pub mod Choices
+pub mod Likeness
+pub mod Places
+pub mod Own

@@ -1,3 +1,4 @@
 pub mod Same
 pub mod Alike
+pub mod Own
 pub mod Setting

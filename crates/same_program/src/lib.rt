@@ -4,4 +4,7 @@
 
 mod laws;
 
-pub use laws::{one_bounds_law, one_choice_law, same_code_law, same_program_law, same_steps_law};
+pub use laws::{
+    alike_law, one_bounds_law, one_choice_law, own_lists_law, same_code_law, same_places_law,
+    same_program_law, same_steps_law,
+};
