@@ -105,6 +105,16 @@ def rows_of(text):
     return [[int(field) if re.fullmatch(r"-?\d+", field) else field for field in row] for row in rows]
 
 
+def cut(rows, ticks):
+    """The rows of a trace up to a tick."""
+    found = []
+    for row in rows:
+        if ticks > 0:
+            found.append([min(row[0], ticks), *row[1:]])
+            ticks -= row[0]
+    return found
+
+
 def fill(random):
     """A fill: a byte of an even or odd gate, an entry's spelling, or any bytes."""
     kind = random.randrange(4)
@@ -364,7 +374,8 @@ class Report:
             elif kind == "out":
                 self.log.append(Out(*map(int, words)))
             elif kind == "ran":
-                self.log.append(Ran(words[0], *map(int, words[1:6]), words[6]))
+                done = None if words[5] == "-" else int(words[5])  # what ran before a saved image
+                self.log.append(Ran(words[0], *map(int, words[1:5]), done, words[6]))
             elif kind == "end":
                 self.end = End(*map(int, words[:3]), words[3])
             elif kind == "var":

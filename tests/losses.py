@@ -18,78 +18,15 @@ The last line is 'N passed, M failed'.
 """
 import os
 import random
-import re
 import sys
 import tempfile
 
 import generate
-import interpret
+import lives
 
 TOP = os.path.dirname(os.path.abspath(__file__))
 ROWS = ["replay-first-commit", "replay-samples", "replay-node", "replay-second-line-torn"]
 FILLS = ["00", "01", "A5", "FF"]
-
-
-def steps_before(entry, report):
-    """The task steps before an event that ran: those of its commit, or where its gate was lost, of the next boot."""
-    for mark in report.marks:
-        if mark.kind == "commit" and mark.tick == entry.done or mark.kind == "boot" and mark.tick > entry.done:
-            return mark.steps
-    return report.end.steps
-
-
-def run_of(report, source, arrivals):
-    """The run that a report tells of: its log, its variables, and its moments, as counts of records and steps."""
-    life = interpret.Life(source)
-    moments = [(0, 0)]
-
-    def go_on(steps):
-        while life.steps < steps and life.step():
-            moments.append((len(life.log), life.steps))
-
-    for entry in report.ran():
-        go_on(steps_before(entry, report))
-        life.serve(entry.name, entry.version, arrivals[entry.name][entry.index][1], (entry.name, entry.index))
-        moments.append((len(life.log), life.steps))
-    go_on(report.end.steps)
-    return life, moments
-
-
-def faults_of(report, files):
-    """What a report says that its guarantee excludes."""
-    faults = []
-    events = generate.events_of(files["source"])
-    arrivals = {event.name: generate.kept(event, generate.rows_of(files["arrivals"]), generate.rows_of(files["trace"])) for event in events}
-    for event in events:
-        ran = [entry for entry in report.ran() if entry.name == event.name]
-        if [entry.index for entry in ran] != list(range(len(ran))) or len(ran) > len(arrivals[event.name]):
-            return [f"{event.name} ran as {[entry.index for entry in ran]}"]
-        for entry in ran:
-            is_in_time = entry.done <= entry.arrived + event.deadline
-            if entry.version != report.versions[event.name].version or (entry.word == "met") != is_in_time:
-                faults.append(f"wrong version or word: {entry}")
-            if entry.arrived != arrivals[event.name][entry.index][0] or not entry.arrived <= entry.started < entry.done <= report.end.tick:
-                faults.append(f"wrong ticks: {entry}")
-    life, moments = run_of(report, files["source"], arrivals)
-    log = [tuple(entry[:2]) for entry in report.log]
-    if (life.log, life.steps, life.variables) != (log, report.end.steps, report.vars):
-        faults.append(f"no run: it has {life.log[-3:]}, {life.steps} and {life.variables}")
-    place = tick = 0
-    for mark in report.marks:
-        if mark.tick <= tick:
-            faults.append(f"not later than the line before: {mark}")
-        tick = mark.tick
-        if mark.kind != "lost":
-            if (mark.records, mark.steps) not in moments[place:]:
-                faults.append(f"no moment of the run from the line before on: {mark}")
-                break
-            place = moments.index((mark.records, mark.steps), place)
-    struck = {row[0] for row in generate.rows_of(files["failures"])}
-    costs = re.findall(r"bound = (\d+)\nactual = (\d+)", files["device"])
-    most = max([row[2] for row in generate.rows_of(files["trace"])], default=0)
-    if all(int(actual) + most <= int(bound) for bound, actual in costs):
-        faults += [f"lost without a failure: {mark}" for mark in report.marks if mark.kind == "lost" and mark.tick - 1 not in struck]
-    return faults
 
 
 class Losses:
@@ -107,7 +44,7 @@ class Losses:
         report, faults = None, []
         if answer.status in (0, 12) and not answer.errors:
             report = generate.Report(answer.text)
-            faults = faults_of(report, files)
+            faults = lives.faults_of(report, files)
         elif answer.status not in range(5, 12) or answer.errors:
             faults = [f"status {answer.status} {answer.errors[:80]!r}"]
         if not faults:

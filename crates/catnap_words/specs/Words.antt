@@ -2,7 +2,7 @@
 use Rattle.std.specs.Prelude.{ℕ, ◌+◌, ◌-◌, ◌*◌, List, [], ◌∷◌, length, Bool, true, ◌&&◌, ◌==◌, nat_le, Option, Some, None, option_map, bytes_eq, codes, map, take, drop, string_bytes, String, if◌then◌else◌}
 use Rattle.std.specs.declared.alloc.Global.{Global}
 use Rattle.catnap_words.specs.declared.form.Form.{Form}
-use Rattle.catnap_words.specs.declared.form.Form.TheVariants.{Run, List as Listing, Check, Plan, Replay, Image, Uplink, Object, Bench}
+use Rattle.catnap_words.specs.declared.form.Form.TheVariants.{Run, List as Listing, Check, Plan, Replay, Image, Resume, Uplink, Object, RunObject, Bench}
 
 -- the bytes of each word
 abbrev pub texts : List (String Global) → List (List ℕ)
@@ -25,7 +25,7 @@ number_of most limit word =
     if nat_le 1 (length word) && nat_le (length word) most && are_digits word && nat_le (value_from 0 word) limit
     then Some (value_from 0 word) else None
 
--- the greatest count of steps that `run` may be asked for
+-- the greatest count of steps that `run` and `runobject` may be asked for
 abbrev pub most_steps : ℕ
 most_steps = 1000000
 
@@ -43,18 +43,28 @@ file_count Check = 2
 file_count Plan = 2
 file_count Replay = 5
 file_count Image = 5
+file_count Resume = 6
 file_count Uplink = 6
 file_count Object = 1
+file_count (RunObject _) = 1
 file_count (Bench _) = 0
 
 -- a form whose words are its files alone, behind which so many words stand
 abbrev pub with_files : Form → ℕ → Option Form
 with_files form count = if count == file_count form then Some form else None
 
--- `SRC STEPS`, STEPS having 1 to 7 digits
+-- the steps of `FILE STEPS`, STEPS having 1 to 7 digits
+abbrev pub steps_of : List (List ℕ) → Option ℕ
+steps_of (file ∷ steps ∷ []) = number_of 7 most_steps steps
+steps_of _ = None
+
+-- `SRC STEPS`
 abbrev pub run_of : List (List ℕ) → Option Form
-run_of (source ∷ steps ∷ []) = option_map (λ n. Run n) (number_of 7 most_steps steps)
-run_of _ = None
+run_of behind = option_map (λ n. Run n) (steps_of behind)
+
+-- `OBJ STEPS`
+abbrev pub run_object_of : List (List ℕ) → Option Form
+run_object_of behind = option_map (λ n. RunObject n) (steps_of behind)
 
 -- `N`, having 1 to 4 digits
 abbrev pub bench_of : List (List ℕ) → Option Form
@@ -70,8 +80,10 @@ form_by command behind =
     else if bytes_eq command (codes "plan") then with_files Plan (length behind)
     else if bytes_eq command (codes "replay") then with_files Replay (length behind)
     else if bytes_eq command (codes "image") then with_files Image (length behind)
+    else if bytes_eq command (codes "resume") then with_files Resume (length behind)
     else if bytes_eq command (codes "uplink") then with_files Uplink (length behind)
     else if bytes_eq command (codes "object") then with_files Object (length behind)
+    else if bytes_eq command (codes "runobject") then run_object_of behind
     else if bytes_eq command (codes "bench") then bench_of behind
     else None
 

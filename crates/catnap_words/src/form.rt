@@ -16,10 +16,14 @@ pub enum Form {
     Replay,
     /// `image SRC DEVICE TRACE ARRIVALS FAILS`
     Image,
+    /// `resume SRC DEVICE TRACE ARRIVALS FAILS IMAGE`
+    Resume,
     /// `uplink SRC DEVICE TRACE ARRIVALS FAILS LINK`
     Uplink,
     /// `object SRC`
     Object,
+    /// `runobject OBJ STEPS`
+    RunObject { steps: u32 },
     /// `bench N`
     Bench { size: u32 },
 }
@@ -30,10 +34,10 @@ impl Form {
         ensures { result ≡ file_count self.now }
     {
         match self {
-            Form::Run { .. } | Form::List | Form::Object => 1,
+            Form::Run { .. } | Form::List | Form::Object | Form::RunObject { .. } => 1,
             Form::Check | Form::Plan => 2,
             Form::Replay | Form::Image => 5,
-            Form::Uplink => 6,
+            Form::Resume | Form::Uplink => 6,
             Form::Bench { .. } => 0,
         }
     }

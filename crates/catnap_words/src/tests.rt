@@ -15,3 +15,17 @@ fn words_ask_for_a_run(rt: HostRuntime) -> Result<(), Fail> {
     assert_eq!(rt; names_in(words.as_slice(), &form)[0].as_str(), "a.cat");
     Ok(())
 }
+
+#[test]
+fn words_ask_for_an_object(rt: HostRuntime) -> Result<(), Fail> {
+    let words = vec![in rt.alloc();
+        String::from_str(rt.alloc(), "runobject")?,
+        String::from_str(rt.alloc(), "a.obj")?,
+        String::from_str(rt.alloc(), "7")?,
+    ]?;
+    let Some(form) = form_in(words.as_slice()) else {
+        return Err("no form".into());
+    };
+    assert_eq!(rt; form, Form::RunObject { steps: 7 });
+    Ok(())
+}

@@ -1,10 +1,10 @@
 ghost use Rattle.std.specs.Prelude.{◌≡◌, ◌≤◌, ◌<◌, length, IfSome};
-ghost use Rattle.catnap_words.specs.Words.{bench_of, file_count, form_by, form_of, names_of, run_of, texts, with_files};
+ghost use Rattle.catnap_words.specs.Words.{bench_of, file_count, form_by, form_of, names_of, run_object_of, run_of, steps_of, texts, with_files};
 
 use crate::form::Form;
 use crate::number::number;
 
-/// The greatest count of steps that `run` may be asked for.
+/// The greatest count of steps that `run` and `runobject` may be asked for.
 const MOST_STEPS: u32 = 1_000_000;
 
 /// The greatest size that `bench` may be asked for.
@@ -21,15 +21,31 @@ fn with_files(form: Form, count: usize) -> Option<Form>
     }
 }
 
-fn run_of(behind: &[String]) -> Option<Form>
-    ensures form { result ≡ run_of (texts behind.now) }
-    ensures enough { IfSome result (λ form. file_count form ≤ length behind.now) }
+/// The steps behind the word of a file.
+fn steps_of(behind: &[String]) -> Option<u32>
+    ensures steps { result ≡ steps_of (texts behind.now) }
+    ensures enough { IfSome result (λ _. 1 ≤ length behind.now) }
 {
     let [_, steps] = behind else {
         return None;
     };
-    let steps = number(steps.as_str(), 7, MOST_STEPS)?;
+    number(steps.as_str(), 7, MOST_STEPS)
+}
+
+fn run_of(behind: &[String]) -> Option<Form>
+    ensures form { result ≡ run_of (texts behind.now) }
+    ensures enough { IfSome result (λ form. file_count form ≤ length behind.now) }
+{
+    let steps = steps_of(behind)?;
     Some(Form::Run { steps })
+}
+
+fn run_object_of(behind: &[String]) -> Option<Form>
+    ensures form { result ≡ run_object_of (texts behind.now) }
+    ensures enough { IfSome result (λ form. file_count form ≤ length behind.now) }
+{
+    let steps = steps_of(behind)?;
+    Some(Form::RunObject { steps })
 }
 
 fn bench_of(behind: &[String]) -> Option<Form>
@@ -66,11 +82,17 @@ fn form_by(command: &str, behind: &[String]) -> Option<Form>
     if command == "image" {
         return with_files(Form::Image, count);
     }
+    if command == "resume" {
+        return with_files(Form::Resume, count);
+    }
     if command == "uplink" {
         return with_files(Form::Uplink, count);
     }
     if command == "object" {
         return with_files(Form::Object, count);
+    }
+    if command == "runobject" {
+        return run_object_of(behind);
     }
     if command == "bench" {
         return bench_of(behind);

@@ -1,0 +1,3 @@
+import sys
+
+sys.stdout.buffer.write(b"CNI1" + bytes(16777300))
