@@ -3,11 +3,14 @@ pub mod Causes
 pub mod Closing
 pub mod ReadMore
 pub mod Running
+pub mod Sections
 mod Refusing
 pub mod OneFault
 pub mod OneSource
 pub mod Looks
 pub mod Named
+pub mod ObjectFiles
+pub mod ImageFiles
 pub mod Cut
 pub mod Own
 pub mod Programs
@@ -20,6 +23,9 @@ pub mod Preparing
 pub mod Living
 pub mod OneReport
 pub mod HeadlineFiles
+pub mod Resuming
+pub mod Behind
+pub mod Ticks
 pub mod HeadlineText
 pub mod HeadlineDeadlines
 pub mod HeadlineRuns
