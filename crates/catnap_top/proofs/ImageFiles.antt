@@ -11,7 +11,7 @@ use Rattle.nv_memory.specs.Layout.{lines_of, size_of}
 use Rattle.catnap_top.specs.declared.file_fault.BadImage.{BadImage}
 use Rattle.catnap_top.specs.declared.files.ReplayFiles.{ReplayFiles}
 use Rattle.catnap_top.specs.Answer.{most_bytes}
-use Rattle.catnap_top.specs.Resume.{IsImage, Start, purpose_for}
+use Rattle.catnap_top.specs.Resume.{IsImage, Start, purpose_in}
 
 abbrev front : List ℕ → List ℕ
 front file = take (most_bytes + 1) file
@@ -88,7 +88,7 @@ module _ (p : Purpose) (file : List ℕ) (lt : most_bytes < length file) where
 pub image_long : (files : ReplayFiles) (chosen : Chosen) (file : List ℕ) (came : Result Start BadImage) → most_bytes < length file
     → IsImage files chosen (front file) came → IsImage files chosen file came
 image_long files chosen file (Ok start) lt is =
-    let fit : IsFit (purpose_for files chosen is.l) (front file) = is.verdict.0 in
+    let fit : IsFit (purpose_in files chosen is.l) (front file) = is.verdict.0 in
     absurd (not_size is.l (front file) (front_more file lt) (fit kind.Size))
 image_long files chosen file (Err bad) lt is =
-    record { l = is.l; layout = is.layout; verdict = fault_long (purpose_for files chosen is.l) file lt bad.kind bad.at is.verdict }
+    record { l = is.l; layout = is.layout; verdict = fault_long (purpose_in files chosen is.l) file lt bad.kind bad.at is.verdict }

@@ -17,6 +17,8 @@ pub mod Programs
 pub mod OneProfile
 pub mod OneChoice
 pub mod OnePlan
+pub mod OneObject
+pub mod OneImage
 pub mod OneAnswer
 pub mod Stopping
 pub mod Preparing

@@ -14,7 +14,7 @@ use Rattle.harvest_trace.specs.declared.row.TraceRow.{TraceRow}
 use Rattle.catnap_top.specs.declared.fault.Table.{Table}
 use Rattle.catnap_top.specs.declared.fault.Table.TheVariants as table
 use Rattle.catnap_words.specs.declared.form.Form.{Form}
-use Rattle.catnap_words.specs.declared.form.Form.TheVariants.{Run, List as Listing, Check, Plan, Replay, Image, Uplink, Object, Bench}
+use Rattle.catnap_words.specs.declared.form.Form.TheVariants.{Run, List as Listing, Check, Plan, Replay, Image, Resume, Uplink, Object, RunObject, Bench}
 use Rattle.catnap_top.specs.declared.fault.Fault.TheVariants as fault
 use Rattle.catnap_top.specs.Answer.{Answer}
 use Rattle.catnap_top.specs.Alike.{AreAlike, Agree, IsSameProgram, AreSameFiles, AreSameLived}
@@ -28,9 +28,13 @@ use Rattle.catnap_top.specs.Look.{Look, Then, found}
 use Rattle.catnap_top.specs.Replay.{living}
 use Rattle.catnap_top.specs.Reply.{looks_of, CallsFor}
 use Rattle.catnap_top.proofs.Looks.{by_agree, then_agree, found_agree, comes_to_one}
-use Rattle.catnap_top.proofs.OneReport.{SameCode, life_agrees, reported_same, saved_same, summed_same}
+use Rattle.catnap_top.proofs.OneReport.{SameCode, life_agrees, rest_agrees, reported_same, rest_reported_same, saved_same, summed_same}
 use Rattle.catnap_top.proofs.OneUplink.{OneUplinkText, uplinks_agree}
 use Rattle.catnap_top.specs.Image.{saved}
+use Rattle.catnap_top.specs.OneRest.{RestsAreOne}
+use Rattle.catnap_top.specs.Resume.{IsImage, Start, going, start_in}
+use Rattle.catnap_top.specs.RunObject.{IsObject, object_in, object_ran}
+use Rattle.cn_object.specs.declared.object.Object.{Object as TheObject}
 use Rattle.catnap_top.specs.Bench.{summed}
 use Rattle.bench_input.specs.Input.{source_text, profile_text, trace_text, arrivals_text, failures_text}
 use Rattle.catnap_top.proofs.OnePlan.{PlansAgree, one_planning}
@@ -117,7 +121,35 @@ module _ (source : (bytes : List ℕ) → Agree IsSameProgram (IsSource bytes) (
       (λ x y both. then_agree AreSameLived (λ a b. a ≡ b) _ _ _ _ (living_agree code one s d t a f x y both)
       (λ k l same. found_agree (λ a b. a ≡ b) _ _ (same_told k l same)))
 
-  module _ (first : SameFirst) (each : SameStep) (listing : SameListing) (code : SameCode) (one : LivesAreOne) (uplink : OneUplinkText) (plans : PlansAgree) where
+  module _ (first : SameFirst) (each : SameStep) (listing : SameListing) (code : SameCode) (one : LivesAreOne) (uplink : OneUplinkText) (plans : PlansAgree)
+      (objects : (bytes : List ℕ) → Agree (λ (o p : TheObject). o ≡ p) (IsObject bytes) (IsObject bytes))
+      (images : (x y : ReplayFiles) (chosen : Chosen) (bytes : List ℕ) → AreSameFiles x y → Agree (λ (s t : Start). s ≡ t) (IsImage x chosen bytes) (IsImage y chosen bytes))
+      (rests : RestsAreOne) where
+    -- a saved image of files that tell the same
+    starts_agree : (x y : ReplayFiles) (c e : Chosen) (bytes : List ℕ) → AreSameFiles x y → c ≡ e → Agree (λ (s t : Start). s ≡ t) (start_in x c bytes) (start_in y e bytes)
+    starts_agree x y c e bytes same equal =
+        subst (λ (v : Chosen). Agree (λ (s t : Start). s ≡ t) (start_in x c bytes) (start_in y v bytes)) equal
+        (by_agree (λ s t. s ≡ t) fault.Image (IsImage x c bytes) (IsImage y c bytes) (images x y c bytes same))
+
+    -- and what goes on from it
+    going_agrees : (s d t a f image : List ℕ) (x y : ReplayFiles) → AreTold s d t a f x y → Agree (λ (a b : Answer). a ≡ b) (going x image) (going y image)
+    going_agrees s d t a f image x y both =
+        let same : AreSameFiles x y = both.0 in
+        let looks = versions_in x.program x.device (supply_of x.device) in
+        let others = versions_in y.program y.device (supply_of y.device) in
+        then_agree (λ c e. (c ≡ e) × looks (Ok c) × others (Ok e)) (λ a b. a ≡ b) _ _ _ _ (agree_given (λ c e. c ≡ e) looks others (versions x.program y.program x.device y.device same.program same.device))
+        (λ c e chosen.
+        then_agree (λ k l. (k ≡ l) × start_in x c image (Ok k) × start_in y e image (Ok l)) (λ a b. a ≡ b) _ _ _ _
+        (agree_given (λ k l. k ≡ l) (start_in x c image) (start_in y e image) (starts_agree x y c e image same chosen.0))
+        (λ k l start.
+        then_agree (λ (m n : Life). m ≡ n) (λ a b. a ≡ b) _ _ _ _
+        (rest_agrees code x y same c e k l
+        (λ one_life other.
+        rests s d t a f image y c k one_life other both.2 (subst (λ (v : Chosen). others (Ok v)) (sym chosen.0) chosen.2)
+        (subst (λ (v : Chosen). start_in y v image (Ok k)) (sym chosen.0) (subst (λ (from : Start). start_in y e image (Ok from)) (sym start.0) start.2)))
+        chosen.0 start.0)
+        (λ m n life. found_agree (λ a b. a ≡ b) _ _ (rest_reported_same x y c e m n same chosen.0 life))))
+
     one_looks : (form : Form) (files : List (List ℕ)) → Agree (λ (a b : Answer). a ≡ b) (looks_of form files) (looks_of form files)
     one_looks (Run steps) files =
         then_agree IsSameProgram (λ a b. a ≡ b) _ _ _ _ (programs (get_or files 0 []))
@@ -139,6 +171,17 @@ module _ (source : (bytes : List ℕ) → Agree IsSameProgram (IsSource bytes) (
         (λ lived. reported lived.files lived.chosen lived.life) reported_same
     one_looks Image files =
         telling_agrees code one (get_or files 0 []) (get_or files 1 []) (get_or files 2 []) (get_or files 3 []) (get_or files 4 []) saved saved_same
+    one_looks Resume files =
+        let s = get_or files 0 [] in
+        let d = get_or files 1 [] in
+        let t = get_or files 2 [] in
+        let a = get_or files 3 [] in
+        let f = get_or files 4 [] in
+        then_agree (AreTold s d t a f) (λ a b. a ≡ b) _ _ _ _ (told_files_agree s d t a f) (λ x y both. going_agrees s d t a f (get_or files 5 []) x y both)
+    one_looks (RunObject steps) files =
+        then_agree (λ (o p : TheObject). o ≡ p) (λ a b. a ≡ b) _ _ _ _
+        (by_agree (λ o p. o ≡ p) fault.Object (IsObject (get_or files 0 [])) (IsObject (get_or files 0 [])) (objects (get_or files 0 [])))
+        (λ o p same. found_agree (λ a b. a ≡ b) _ _ (ap (object_ran steps) same))
     one_looks (Bench size) files =
         telling_agrees code one source_text profile_text (trace_text size) (arrivals_text size) (failures_text size) (summed size) (summed_same size)
     one_looks Uplink files =

@@ -34,4 +34,5 @@ pub mod Reads
 pub mod Course
 pub mod Clauses
 pub mod OneLife
+pub mod OneRest
 pub mod Headline

@@ -3,7 +3,7 @@ use Rattle.std.specs.Prelude.{◌≡◌, ℕ, List, Result, MatchResult}
 use Rattle.board_core.specs.Reached.{model_start}
 use Rattle.checkpoint_slots.specs.Image.{committed_slot}
 use Rattle.cn_report.specs.Whole.{resumed_text}
-use Rattle.cn_resume.specs.Fit.{Purpose, purpose_of, tick_in, stored_in, image_in, IsFit, IsFirstFault}
+use Rattle.cn_resume.specs.Fit.{Purpose, tick_in, stored_in, image_in, IsFit, IsFirstFault}
 use Rattle.cn_scheduler.specs.Point.{Work, work_of}
 use Rattle.degradation.specs.Choice.{supply_of}
 use Rattle.degradation.specs.Placed.{IsLayoutOf}
@@ -11,7 +11,7 @@ use Rattle.degradation.specs.declared.chosen.Chosen.{Chosen}
 use Rattle.harvest_trace.specs.Timeline.{life_of}
 use Rattle.nv_memory.specs.declared.layout.Layout.{Layout}
 use Rattle.recovery.specs.Past.{Past, committed_at, past_of}
-use Rattle.reference_run.specs.Reference.{setting_of}
+use Rattle.resumed_runs.specs.Files.{purpose_for}
 use Rattle.catnap_top.specs.declared.fault.Fault.TheVariants as fault
 use Rattle.catnap_top.specs.declared.file_fault.BadImage.{BadImage}
 use Rattle.catnap_top.specs.declared.files.ReplayFiles.{ReplayFiles}
@@ -33,16 +33,16 @@ pub record Start : Type 0 where
 abbrev pub start_for : List ℕ → Start
 start_for bytes = record { tick = tick_in bytes; stored = stored_in bytes; image = image_in bytes }
 
--- an image is to be of this program, in the versions that are chosen for it, on these arrivals, and of this device and trace
-abbrev pub purpose_for : ReplayFiles → Chosen → Layout → Purpose
-purpose_for files chosen l = purpose_of (setting_of files.program chosen.versions files.arrivals) l files.device.cap (life_of files.trace)
+-- it is to be one of these files, in the versions that are chosen for them
+abbrev pub purpose_in : ReplayFiles → Chosen → Layout → Purpose
+purpose_in files chosen l = purpose_for files.program chosen files.arrivals l files.device (life_of files.trace)
 
 -- bytes are a saved image from which the device can go on, or the first condition on them fails
 pub record IsImage (files : ReplayFiles) (chosen : Chosen) (bytes : List ℕ) (came : Result Start BadImage) : Type 0 where
   pub l : Layout
   pub layout : IsLayoutOf files.program files.device l
-  pub verdict : MatchResult came (λ start. IsFit (purpose_for files chosen l) bytes × (start ≡ start_for bytes))
-      (λ bad. IsFirstFault (purpose_for files chosen l) bytes bad.kind bad.at)
+  pub verdict : MatchResult came (λ start. IsFit (purpose_in files chosen l) bytes × (start ≡ start_for bytes))
+      (λ bad. IsFirstFault (purpose_in files chosen l) bytes bad.kind bad.at)
 
 abbrev pub start_in : ReplayFiles → Chosen → List ℕ → Look Start
 start_in files chosen bytes = By fault.Image (IsImage files chosen bytes)

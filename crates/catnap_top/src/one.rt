@@ -1,10 +1,15 @@
 //! What words and files call for is one answer: laws of the definitions, with no code.
 
 ghost use Rattle.std.specs.Prelude.{◌≡◌, ℕ, List};
-ghost use Rattle.catnap_top.specs.Alike.{Agree, IsSameProgram};
+ghost use Rattle.catnap_top.specs.Alike.{Agree, AreSameFiles, IsSameProgram};
 ghost use Rattle.cat_program.specs.Checked.{Checked};
 ghost use Rattle.nv_memory.specs.declared.device.Device.{Device};
 ghost use Rattle.catnap_top.specs.OneLife.{LivesAreOne};
+ghost use Rattle.catnap_top.specs.OneRest.{RestsAreOne};
+ghost use Rattle.catnap_top.specs.Resume.{IsImage};
+ghost use Rattle.catnap_top.specs.RunObject.{IsObject};
+ghost use Rattle.catnap_top.specs.declared.files.ReplayFiles.{ReplayFiles as TheFiles};
+ghost use Rattle.degradation.specs.declared.chosen.Chosen.{Chosen as Choice};
 ghost use Rattle.catnap_words.specs.declared.form.Form.{Form as TheForm};
 ghost use Rattle.catnap_top.specs.Answer.{Answer};
 ghost use Rattle.catnap_top.specs.Files.{IsSource, IsProfile};
@@ -18,7 +23,9 @@ use cat_places::one_starts;
 use cat_resolve::checked_law;
 use cat_syntax::one_tree;
 use cat_tokens::one_lexing;
+use cn_object::{one_object_law, one_verdict_law};
 use cn_plan::one_plan_law;
+use cn_resume::one_verdict;
 use cn_runtime::{plans_are_planned, plans_are_set_up};
 use cn_uplink::one_uplink_text;
 use degradation::choices_suit;
@@ -28,7 +35,9 @@ use lawful_timeline::starts_belong;
 use nv_memory::layouts_are_numbers;
 use one_timeline::timelines_end_alike;
 use recovery::first_image_is_one;
+use resumed_runs::fit_images_begin;
 use same_program::{one_choice_law, same_code_law, same_program_law, same_steps_law};
+use same_runs::same_images_law;
 
 /// A source stands for programs that say the same, or is refused for one kind at one byte.
 fn one_source()
@@ -62,6 +71,23 @@ fn one_plan()
     one_plan_law();
 }
 
+/// Bytes are the file of one object whose code can be run, or break one rule at one place.
+fn one_object()
+    ensures { (bytes : List ℕ) → Agree (λ o p. o ≡ p) (IsObject bytes) (IsObject bytes) }
+{
+    one_object_law();
+    one_verdict_law();
+}
+
+/// Bytes are a saved image of files that tell the same, with one start, or fail one condition with one number.
+fn one_image()
+    ensures { (x y : TheFiles) (chosen : Choice) (bytes : List ℕ) → AreSameFiles x y → Agree (λ s t. s ≡ t) (IsImage x chosen bytes) (IsImage y chosen bytes) }
+{
+    layouts_are_numbers();
+    one_verdict();
+    same_images_law();
+}
+
 /// Where bytes tell the files of a replay, and the device can serve the events in some versions, the life that follows is one.
 pub fn lives_are_one()
     ensures { LivesAreOne }
@@ -78,6 +104,23 @@ pub fn lives_are_one()
     timelines_end_alike();
 }
 
+/// So is the life that goes on from a saved image of theirs.
+pub fn rests_are_one()
+    ensures { RestsAreOne }
+{
+    checked_law();
+    told_arrivals_are_sound();
+    choices_suit();
+    plans_are_set_up();
+    plans_are_planned();
+    layouts_are_numbers();
+    first_image_is_one();
+    rules_decide();
+    starts_belong();
+    timelines_end_alike();
+    fit_images_begin();
+}
+
 /// What a form of words calls for over the bytes of its files is one answer: two implementations that both give what is called
 /// for give the same.
 pub fn one_answer()
@@ -87,7 +130,10 @@ pub fn one_answer()
     one_profile();
     one_choice();
     one_plan();
+    one_object();
+    one_image();
     lives_are_one();
+    rests_are_one();
     same_steps_law();
     same_code_law();
     one_uplink_text();

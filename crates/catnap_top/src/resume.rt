@@ -9,6 +9,7 @@ ghost use Rattle.cn_scheduler.specs.EnginePoint.{IsFirst};
 ghost use Rattle.harvest_trace.specs.Timeline.{life_of};
 ghost use Rattle.lawful_timeline.specs.Working.{IsSetUp};
 ghost use Rattle.nv_memory.specs.Layout.{size_of};
+ghost use Rattle.degradation.specs.Placed.{IsLayoutOf};
 ghost use Rattle.reference_run.specs.Reference.{AreFor, setting_of};
 ghost use Rattle.cn_runtime.specs.Resumed.{CanGoOn};
 ghost use Rattle.catnap_top.specs.Look.{LooksAs};
@@ -29,8 +30,9 @@ use cn_report::{Shadow, write_resumed};
 use cn_resume::{ImageFault, Saved, accept};
 use cn_runtime::{Prepared, prepare, resume};
 use harvest_trace::{Fails, Trace};
-use nv_memory::Device;
+use nv_memory::{Device, layouts_are_numbers};
 use recovery::recover;
+use resumed_runs::fit_images_begin;
 use std::alloc::Global;
 
 /// A board that goes on from a saved image, how many records the image has, and room for the report.
@@ -82,10 +84,10 @@ fn saved_in(
     failures: &Fails,
     image: &[u8],
 ) -> Result<Saved, Stop>
-    requires { AreFor (setting_of prepared.now.program prepared.now.chosen.versions prepared.now.plan.queue.arrivals) }
+    requires belong { AreFor (setting_of prepared.now.program prepared.now.chosen.versions prepared.now.plan.queue.arrivals) }
+    requires layout { IsLayoutOf prepared.now.program prepared.now.device prepared.now.plan.layout }
     ensures { LooksAs start_of (start_in (files_with prepared.now trace.now failures.now) prepared.now.chosen image.now) result }
 {
-    let _life = trace.life();
     match accept(
         alloc,
         &prepared.program,
@@ -175,6 +177,8 @@ fn go_on(alloc: Global, files: ReplayFiles, image: &[u8]) -> Result<Resumed, Sto
         arrivals,
         failures,
     } = files;
+    layouts_are_numbers();
+    fit_images_begin();
     let own = device.copy();
     let prepared = match prepare(alloc, program, device, arrivals) {
         Ok(prepared) => prepared,

@@ -5,3 +5,4 @@ pub returns : goal.returns
 returns c =
     one_answer c.one_source.ensures c.one_profile.ensures c.one_choice.ensures
     c.same_steps_law.ensures.first c.same_steps_law.ensures.step c.same_code_law.ensures.listing c.same_code_law.ensures.code c.lives_are_one.ensures c.one_uplink_text.ensures c.one_plan.ensures
+    c.one_object.ensures c.one_image.ensures c.rests_are_one.ensures

@@ -1,11 +1,12 @@
 use Rattle.std.proofs.Common.{◌≡◌, ap, ◌∙◌, subst, arith, length}
-use Rattle.catnap_words.specs.declared.form.Form.TheVariants.{Run, List as Listing, Check, Plan, Replay, Image, Uplink, Object, Bench}
+use Rattle.catnap_words.specs.declared.form.Form.TheVariants.{Run, List as Listing, Check, Plan, Replay, Image, Resume, Uplink, Object, RunObject, Bench}
 use Rattle.catnap_words.specs.Words.{file_count}
 use Rattle.catnap_top.specs.Look.{LooksAs}
 use Rattle.catnap_top.specs.Reply.{reply_answer}
 use Rattle.catnap_top.specs.Run.{running}
 use Rattle.catnap_top.specs.Listed.{listing}
 use Rattle.catnap_top.specs.Object.{compiling}
+use Rattle.catnap_top.specs.RunObject.{running_object}
 use Rattle.catnap_top.proofs.Preparing.{contents, file_at, looks_as_form}
 use Rattle.catnap_top.proofs.reply.prepare.Goals as goal
 
@@ -77,6 +78,28 @@ returns-in-Image-clause-looks c =
     looks_as_form c.args.form Image (contents files) c.prepare_image.result c.in-Image.is
     (rw (source, profile, trace, arrivals, failures) at c.prepare_image.ensures.looks)
 
+pub returns-in-Resume-clause-looks : goal.returns-in-Resume-clause-looks
+returns-in-Resume-clause-looks c =
+    let files = c.args.files.now in
+    let count : length files ≡ 6 = c.requires ∙ ap file_count c.in-Resume.is in
+    let source = file_at files 0 c.index-files-0-in-Resume.result c.as_slice-in-Resume.result.now (omega arith) c.as_slice-in-Resume.ensures.value c.index-files-0-in-Resume.is in
+    let profile = file_at files 1 c.index-files-1-in-Resume.result c.as_slice-in-Resume-2.result.now (omega arith) c.as_slice-in-Resume-2.ensures.value c.index-files-1-in-Resume.is in
+    let trace = file_at files 2 c.index-files-2-in-Resume.result c.as_slice-in-Resume-3.result.now (omega arith) c.as_slice-in-Resume-3.ensures.value c.index-files-2-in-Resume.is in
+    let arrivals = file_at files 3 c.index-files-3-in-Resume.result c.as_slice-in-Resume-4.result.now (omega arith) c.as_slice-in-Resume-4.ensures.value c.index-files-3-in-Resume.is in
+    let failures = file_at files 4 c.index-files-4-in-Resume.result c.as_slice-in-Resume-5.result.now (omega arith) c.as_slice-in-Resume-5.ensures.value c.index-files-4-in-Resume.is in
+    let image = file_at files 5 c.index-files-5.result c.as_slice-in-Resume-6.result.now (omega arith) c.as_slice-in-Resume-6.ensures.value c.index-files-5.is in
+    looks_as_form c.args.form Resume (contents files) c.prepare_resume.result c.in-Resume.is
+    (rw (source, profile, trace, arrivals, failures, image) at c.prepare_resume.ensures.looks)
+
+pub returns-in-RunObject-clause-looks : goal.returns-in-RunObject-clause-looks
+returns-in-RunObject-clause-looks c =
+    let files = c.args.files.now in
+    let count : length files ≡ 1 = c.requires ∙ ap file_count c.in-RunObject.is in
+    looks_as_form c.args.form (RunObject c.in-RunObject.steps) (contents files) c.prepare_runobject.result c.in-RunObject.is
+    (subst (λ bytes. LooksAs reply_answer (running_object c.in-RunObject.steps bytes) c.prepare_runobject.result)
+    (file_at files 0 c.index-files-0-in-RunObject.result c.as_slice-in-RunObject.result.now (omega arith) c.as_slice-in-RunObject.ensures.value c.index-files-0-in-RunObject.is)
+    c.prepare_runobject.ensures.looks)
+
 pub returns-in-Bench-clause-looks : goal.returns-in-Bench-clause-looks
 returns-in-Bench-clause-looks c = looks_as_form c.args.form (Bench c.in-Bench.size) (contents c.args.files.now) c.prepare_bench.result c.in-Bench.is c.prepare_bench.ensures.looks
 
@@ -89,6 +112,6 @@ returns-in-Uplink-clause-looks c =
     let trace = file_at files 2 c.index-files-2-in-Uplink.result c.as_slice-in-Uplink-3.result.now (omega arith) c.as_slice-in-Uplink-3.ensures.value c.index-files-2-in-Uplink.is in
     let arrivals = file_at files 3 c.index-files-3-in-Uplink.result c.as_slice-in-Uplink-4.result.now (omega arith) c.as_slice-in-Uplink-4.ensures.value c.index-files-3-in-Uplink.is in
     let failures = file_at files 4 c.index-files-4-in-Uplink.result c.as_slice-in-Uplink-5.result.now (omega arith) c.as_slice-in-Uplink-5.ensures.value c.index-files-4-in-Uplink.is in
-    let link = file_at files 5 c.index-files-5.result c.as_slice-in-Uplink-6.result.now (omega arith) c.as_slice-in-Uplink-6.ensures.value c.index-files-5.is in
+    let link = file_at files 5 c.index-files-5-in-Uplink.result c.as_slice-in-Uplink-6.result.now (omega arith) c.as_slice-in-Uplink-6.ensures.value c.index-files-5-in-Uplink.is in
     looks_as_form c.args.form Uplink (contents files) c.prepare_uplink.result c.in-Uplink.is
     (rw (source, profile, trace, arrivals, failures, link) at c.prepare_uplink.ensures.looks)

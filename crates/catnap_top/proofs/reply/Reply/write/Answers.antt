@@ -32,6 +32,14 @@ pub returns-in-Image-clause-text : goal.returns-in-Image-clause-text
 returns-in-Image-clause-text g c =
     subst (λ (r : Reply). Writes (g.K.Sink.written c.args.sink.now) (g.K.Sink.written c.write_image.new.sink) (reply_answer r).text c.write_image.result) (sym c.in-Image.is) c.write_image.ensures.text
 
+pub returns-in-Resume-clause-text : goal.returns-in-Resume-clause-text
+returns-in-Resume-clause-text g c =
+    subst (λ (r : Reply). Writes (g.K.Sink.written c.args.sink.now) (g.K.Sink.written c.write_rest.new.sink) (reply_answer r).text c.write_rest.result) (sym c.in-Resume.is) c.write_rest.ensures.text
+
+pub returns-in-RunObject-clause-text : goal.returns-in-RunObject-clause-text
+returns-in-RunObject-clause-text g c =
+    subst (λ (r : Reply). Writes (g.K.Sink.written c.args.sink.now) (g.K.Sink.written c.write_sections.new.sink) (reply_answer r).text c.write_sections.result) (sym c.in-RunObject.is) c.write_sections.ensures.text
+
 pub returns-in-Bench-clause-text : goal.returns-in-Bench-clause-text
 returns-in-Bench-clause-text g c =
     subst (λ (r : Reply). Writes (g.K.Sink.written c.args.sink.now) (g.K.Sink.written c.write_bench.new.sink) (reply_answer r).text c.write_bench.result) (sym c.in-Bench.is) c.write_bench.ensures.text
