@@ -8,7 +8,7 @@ use Rattle.reference_run.specs.declared.schedule.Item.{Item}
 use Rattle.reference_run.specs.Reference.{Moment, last_start}
 use Rattle.logged_runs.specs.Reference.{IsRun, Setting}
 use Rattle.logged_runs.specs.Own.{IsOwn, IsPrefixOf, items_in}
-use Rattle.logged_runs.specs.Laws.{last_start_of}
+use Rattle.logged_runs.specs.Laws.{counts_of, last_start_of}
 use Rattle.lawful_timeline.specs.Points.{BeganBefore}
 
 -- ---- no job began later than the last one
@@ -121,7 +121,19 @@ find_last (Ran event version steps start index ∷ entries) = by (last_keeps (it
       there = last.there ∙ ap (λ (t : ℕ). Some (Ran last.event last.version last.steps t last.index)) (sym keeps);
     })
 
--- where all began before a tick, the last one did by it
+none_told : (entries : List LogEntry) → items_in entries ≡ [] → (event : ℕ) → counts_of entries event ≡ 0
+none_told [] none event = refl
+none_told (Out channel value ∷ entries) none event = none_told entries none event
+none_told (Ran e version steps start index ∷ entries) none event = cc
+
+-- where each began before a tick, the last one did, or there is none
+pub none_or_before : (entries : List LogEntry) (tick : ℕ) → BeganBefore tick entries → ((event : ℕ) → counts_of entries event ≡ 0) ⊎ (last_start_of entries < tick)
+none_or_before entries tick before = by (find_last entries)
+  where
+    by : (items_in entries ≡ []) ⊎ IsLast entries → ((event : ℕ) → counts_of entries event ≡ 0) ⊎ (last_start_of entries < tick)
+    by (inl none) = inl (none_told entries none)
+    by (inr last) = inr (before last.place last.event last.version last.steps (last_start_of entries) last.index last.there)
+
 pub last_began : (entries : List LogEntry) (tick : ℕ) → BeganBefore tick entries → last_start_of entries ≤ tick
 last_began entries tick before = by (find_last entries)
   where

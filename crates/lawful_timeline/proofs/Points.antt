@@ -16,6 +16,7 @@ use Rattle.checkpoint_slots.specs.Image.{committed_slot}
 use Rattle.event_queue.specs.declared.queue.Due.{Due}
 use Rattle.recovery.specs.Committed.{Committed}
 use Rattle.reference_run.specs.Reference.{Moment}
+use Rattle.logged_runs.specs.Laws.{counts_of, last_start_of}
 use Rattle.image_meaning.specs.Standing.{moment_of}
 use Rattle.image_meaning.specs.Laws.{ImagesStandForOne}
 use Rattle.cn_scheduler.specs.declared.plan.Plan.{Plan}
@@ -30,14 +31,14 @@ use Rattle.cn_scheduler.specs.Asked.{Ask, Asked, HasRoom, Limits, ask_with, list
 use Rattle.cn_scheduler.specs.Chunks.{Does, IsChunk, IsLawful, JobAsks, Link, SectionDoes, WakeDoes, is_last, no_floor, task_limits}
 use Rattle.cn_scheduler.specs.Chunks.JobAsks.{Early, Late}
 use Rattle.cn_scheduler.specs.Belongs.{BelongTogether}
-use Rattle.lawful_timeline.specs.Working.{IsSetUp, setting_of}
+use Rattle.lawful_timeline.specs.Working.{IsSetUp}
 use Rattle.lawful_timeline.specs.Claims.{Begins, EachPoint}
-use Rattle.lawful_timeline.specs.Points.{BeganBefore, IsPastJobs, TakesTime}
+use Rattle.lawful_timeline.specs.Points.{BeganBefore, HasDoneNone, IsPastJobs, TakesTime}
 use Rattle.lawful_timeline.proofs.Outputs.{run_puts_out}
 use Rattle.lawful_timeline.proofs.Works.{shape_of}
 use Rattle.lawful_timeline.proofs.Policies.{never_dropped}
 use Rattle.lawful_timeline.proofs.Times.{chunk_time, section_on}
-use Rattle.lawful_timeline.proofs.Begun.{began_by}
+use Rattle.lawful_timeline.proofs.Begun.{none_or_before}
 use Rattle.lawful_timeline.proofs.Kept.{Kept, Laws, Next, Sound, low as saved_low, no_path}
 use Rattle.lawful_timeline.proofs.Whole.{one_chunk, sound_first}
 
@@ -251,8 +252,8 @@ module _ (program : Checked) (plan : Plan) where
           all_together cs c.after kept.value next.moment next.sound (time_next p c.after c.choice c.outcome lawful.0.does time) (step_next p c v kept.value m sound lawful.0 on time step next) lawful.2,
     )
 
-    all_past : (cs : List Link) (p : Point) (v : Committed) (m : Moment) → Sound program plan laws set_up p.board p.work v m p.dirty → TakesTime p.board → BeganBefore p.board.tick m.entries → IsLawful plan p cs
-        → EachPoint (IsPastJobs program plan) p cs
+    all_past : (cs : List Link) (p : Point) (v : Committed) (m : Moment) → Sound program plan laws set_up p.board p.work v m p.dirty → TakesTime p.board → (last_start_of m.entries < p.board.tick) ⊎ HasDoneNone plan p
+        → IsLawful plan p cs → EachPoint (IsPastJobs program plan) p cs
     all_past [] p v m sound time before lawful = record { moment = m; works = sound.holds.works; before = before }
     all_past (c ∷ cs) p v m sound time before lawful = (
       record { moment = m; works = sound.holds.works; before = before },
@@ -260,8 +261,8 @@ module _ (program : Checked) (plan : Plan) where
           let kept : Kept program plan laws set_up v m p.board.tick c.outcome p.board c.after = one_chunk program plan laws set_up one p c v m sound lawful.0 in
           let next : Next program plan laws set_up m kept.value p.board.tick c.outcome c.after = kept.next on in
           let later = chunk_time plan p c.after c.outcome c.choice time on lawful.0.chosen lawful.0.does in
-          all_past cs c.after kept.value next.moment next.sound (time_next p c.after c.choice c.outcome lawful.0.does time)
-          (began_by (setting_of program plan) next.moment p.board.tick c.after.board.tick next.sound.holds.works.own next.begun later) lawful.2,
+          let begun = next.begun in
+          all_past cs c.after kept.value next.moment next.sound (time_next p c.after c.choice c.outcome lawful.0.does time) (inl (omega arith)) lawful.2,
     )
 
     pub belong_throughout : (p : Point) (cs : List Link) → Begins program plan p → TakesTime p.board → p.work.steps ≤ p.board.tick → IsLawful plan p cs → EachPoint (BelongTogether program plan) p cs
@@ -276,6 +277,10 @@ module _ (program : Checked) (plan : Plan) where
         lawful
 
     pub past_throughout : (p : Point) (cs : List Link) → (b : Begins program plan p) → TakesTime p.board → BeganBefore p.board.tick b.moment.entries → IsLawful plan p cs → EachPoint (IsPastJobs program plan) p cs
-    past_throughout p cs begins time before lawful =
+    past_throughout p cs begins time began lawful =
         all_past cs p begins.stands.value (moment_of begins.stands.value) (sound_first program plan laws set_up one p begins) time
-        (subst (λ (x : Moment). BeganBefore p.board.tick x.entries) (sym begins.stands.is) before) lawful
+        (by (none_or_before begins.stands.value.entries p.board.tick (subst (λ (x : Moment). BeganBefore p.board.tick x.entries) (sym begins.stands.is) began))) lawful
+      where
+        by : ((event : ℕ) → counts_of begins.stands.value.entries event ≡ 0) ⊎ (last_start_of begins.stands.value.entries < p.board.tick) → (last_start_of begins.stands.value.entries < p.board.tick) ⊎ HasDoneNone plan p
+        by (inl none) = inr (λ event within. (sound_first program plan laws set_up one p begins).holds.works.done event within ∙ none event)
+        by (inr before) = inl before

@@ -1,11 +1,12 @@
 -- What holds at each decision point of a timeline on a board whose operations take time.
-use Rattle.std.specs.Prelude.{◌≡◌, ℕ, ◌<◌, ◌≤◌, List, Some, slice_get}
+use Rattle.std.specs.Prelude.{◌≡◌, ◌⊎◌, ℕ, ◌<◌, ◌≤◌, List, Some, slice_get, slice_index}
 use Rattle.cat_program.specs.declared.outs.LogEntry.{LogEntry}
 use Rattle.cat_program.specs.declared.outs.LogEntry.TheVariants.{Ran}
 use Rattle.cat_program.specs.Checked.{Checked}
 use Rattle.nv_memory.specs.declared.device.Class.{Class}
 use Rattle.nv_memory.specs.Board.{State}
 use Rattle.reference_run.specs.Reference.{Moment}
+use Rattle.logged_runs.specs.Laws.{last_start_of}
 use Rattle.cn_scheduler.specs.declared.plan.Plan.{Plan}
 use Rattle.cn_scheduler.specs.Point.{Point}
 use Rattle.cn_scheduler.specs.Chunks.{Link, IsLawful}
@@ -21,11 +22,15 @@ TakesTime board = (kind : Class) → 1 ≤ board.ticks kind
 abbrev pub BeganBefore : ℕ → List LogEntry → Type 0
 BeganBefore tick entries = (i event version steps start index : ℕ) → slice_get entries i ≡ Some (Ran event version steps start index) → start < tick
 
--- The working value is at a moment of a run each of whose jobs began before now.
+-- no arrival is done
+abbrev pub HasDoneNone : Plan → Point → Type 0
+HasDoneNone plan p = (event : ℕ) → event < plan.layout.events → slice_index p.work.done event ≡ 0
+
+-- The working value is at a moment of a run whose last job began before now, or no arrival is done.
 pub record IsPastJobs (program : Checked) (plan : Plan) (q : Point) : Type 0 where
   pub moment : Moment
   pub works : WorksAs program plan q.board.image q.work moment
-  pub before : BeganBefore q.board.tick moment.entries
+  pub before : (last_start_of moment.entries < q.board.tick) ⊎ HasDoneNone plan q
 
 -- what holds at each decision point of a lawful timeline
 pub record PointsHold (program : Checked) (plan : Plan) : Type 0 where
