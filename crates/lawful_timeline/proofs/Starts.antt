@@ -27,7 +27,7 @@ use Rattle.lawful_timeline.proofs.Works.{Holds, committed_holds, shape_of}
 
 module _ (program : Checked) (plan : Plan) (writes : WritesAreLocal) (parts : PartsAreApart plan.layout) (long : (s : Slot) → length (spelling plan.layout s) ≡ 64 * lines_of plan.layout)
     (one : ImagesStandForOne plan.layout program) (go_on : OwnRunsGoOn (setting_of program plan)) where
-  fresh_size : (image : List ℕ) → IsFresh program plan.layout image → length image ≡ size_of plan.layout
+  pub fresh_size : (image : List ℕ) → IsFresh program plan.layout image → length image ≡ size_of plan.layout
   fresh_size image fresh =
       let zeros : length (replicate (size_of plan.layout) 0) ≡ size_of plan.layout = length-replicate (size_of plan.layout) 0 in
       let bytes = long fresh.slot in

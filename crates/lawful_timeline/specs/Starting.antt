@@ -1,7 +1,8 @@
 -- Where a replay starts, and where a run goes on.
-use Rattle.std.specs.Prelude.{◌≡◌, ◌≤◌, false, None, replicate}
+use Rattle.std.specs.Prelude.{◌≡◌, ◌≤◌, false, None, length, replicate}
 use Rattle.cat_program.specs.Checked.{Checked}
 use Rattle.nv_memory.specs.declared.layout.Layout.{Layout}
+use Rattle.nv_memory.specs.Layout.{size_of}
 use Rattle.nv_memory.specs.Board.{State}
 use Rattle.checkpoint_slots.specs.Image.{committed_slot}
 use Rattle.recovery.specs.First.{IsFresh}
@@ -47,6 +48,8 @@ pub record StartsBelong (program : Checked) (plan : Plan) : Type 0 where
   pub begins : (p : Point) → StartsFresh program plan p → Begins program plan p
   -- a run from the first image goes on from it as from one that was saved
   pub fresh : (p : Point) → StartsFresh program plan p → StartsSaved program plan p
+  -- it has the layout's size
+  pub size : (p : Point) → StartsFresh program plan p → length p.board.image ≡ size_of plan.layout
   -- a saved image stands for the moment at which its run goes on
   pub saved : (p : Point) → StartsSaved program plan p → BeginsSaved program plan p
   -- the engine's calls may come
