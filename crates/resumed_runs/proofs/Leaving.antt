@@ -1,7 +1,6 @@
 -- What a run leaves is fit.
 use Rattle.std.proofs.Common.{◌≡◌, ℕ, ◌+◌, ◌<◌, ◌≤◌, ◌^◌, List, length, get_or, map, Some, Option, refl, sym, ap, ◌∙◌, subst, arith}
-use Rattle.std.specs.Prelude.{slice_get, slice_index, count_by}
-use Rattle.std.specs.Int.{w32}
+use Rattle.std.specs.Prelude.{slice_get, slice_index, count_by, pos}
 use Rattle.std.specs.List.{range_with_len}
 use Rattle.std.specs.Option.{option_and_then}
 use Rattle.std.proofs.lemmas.Nat.{from_le_bytes-to_le_bytes_4}
