@@ -3,3 +3,4 @@ pub mod Engines
 pub mod Prepares
 pub mod Readied
 pub mod RowNumbers
+pub mod Resumes

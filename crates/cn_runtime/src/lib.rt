@@ -7,9 +7,11 @@ mod prepared;
 mod preparing;
 mod refused;
 mod replaying;
+mod resumed;
 
 pub use plans::{plans_are_planned, plans_are_set_up};
 pub use prepared::{Prepared, replay};
 pub use preparing::prepare;
 pub use refused::PrepareFault;
 pub use replaying::{Turns, replay_by};
+pub use resumed::resume;

@@ -90,6 +90,10 @@ module _ (program : Checked) (plan : Plan) (laws : Laws program plan) (set_up : 
     pub timeline : q.board.timeline ≡ old.timeline ++ entries
     pub image : q.board.image ≡ image_by entries old.image
     pub grows : Grows plan.layout (setting_of program plan) v old.image entries value
+    pub committed : IsCommitted plan.layout program q.board.image value
+    pub stays : is_last outcome ≡ true → value ≡ v
+    pub later : old.tick ≤ q.board.tick
+    pub size : length q.board.image ≡ length old.image
     pub next : is_last outcome ≡ false → Next m value since outcome q
 
   -- back to what the image stands for
@@ -143,6 +147,10 @@ module _ (program : Checked) (plan : Plan) (laws : Laws program plan) (set_up : 
       timeline = left.timeline;
       image = left.image;
       grows = grows_along plan.layout (setting_of program plan) laws.ordered v b.image left.entries sound.own (left.along v low sound.committed);
+      committed = left.keeps v low sound.committed;
+      stays = λ is. refl;
+      later = left.tick;
+      size = left.size;
       next = next;
     }
 
@@ -281,6 +289,10 @@ module _ (program : Checked) (plan : Plan) (laws : Laws program plan) (set_up : 
           timeline = done.timeline;
           image = done.image;
           grows = done.grows;
+          committed = done.committed;
+          stays = done.stays;
+          later = done.tick;
+          size = done.size;
           next = after_commit does.fits since begun begun_saved later outcome q does.asked does.leaves done;
         }
 
@@ -482,6 +494,10 @@ module _ (program : Checked) (plan : Plan) (laws : Laws program plan) (set_up : 
           image = rest.image ∙ ap (λ (i : List ℕ). image_by rest.entries i) left.image ∙ sym (image_by-append left.entries rest.entries b.image);
           grows = grows-append plan.layout (setting_of program plan) v v rest.value b.image left.entries rest.entries along
               (subst (λ (i : List ℕ). Grows plan.layout (setting_of program plan) v i rest.entries rest.value) left.image rest.grows);
+          committed = rest.committed;
+          stays = rest.stays;
+          later = (let a = left.tick in let b = rest.later in omega arith);
+          size = rest.size ∙ left.size;
           next = λ is. (let n : Next served rest.value b.tick outcome q = rest.next is in record { moment = n.moment; sound = n.sound; steps = n.steps; most = n.most; begun = n.begun });
         }
 

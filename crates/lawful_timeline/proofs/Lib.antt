@@ -9,4 +9,6 @@ pub mod Lines
 pub mod Times
 pub mod Starts
 pub mod Turning
+pub mod Begun
 pub mod Points
+pub mod Ending

@@ -16,7 +16,7 @@ use Rattle.checkpoint_slots.specs.Image.{committed_slot}
 use Rattle.event_queue.specs.declared.queue.Due.{Due}
 use Rattle.recovery.specs.Committed.{Committed}
 use Rattle.reference_run.specs.Reference.{Moment}
-use Rattle.logged_runs.specs.Laws.{last_start_of}
+use Rattle.logged_runs.specs.Laws.{counts_of, last_start_of}
 use Rattle.image_meaning.specs.Standing.{moment_of}
 use Rattle.image_meaning.specs.Laws.{ImagesStandForOne}
 use Rattle.cn_scheduler.specs.declared.plan.Plan.{Plan}
@@ -33,11 +33,12 @@ use Rattle.cn_scheduler.specs.Chunks.JobAsks.{Early, Late}
 use Rattle.cn_scheduler.specs.Belongs.{BelongTogether}
 use Rattle.lawful_timeline.specs.Working.{IsSetUp}
 use Rattle.lawful_timeline.specs.Claims.{Begins, EachPoint}
-use Rattle.lawful_timeline.specs.Points.{HasDoneNone, IsPastJobs, TakesTime}
+use Rattle.lawful_timeline.specs.Points.{BeganBefore, HasDoneNone, IsPastJobs, TakesTime}
 use Rattle.lawful_timeline.proofs.Outputs.{run_puts_out}
 use Rattle.lawful_timeline.proofs.Works.{shape_of}
 use Rattle.lawful_timeline.proofs.Policies.{never_dropped}
 use Rattle.lawful_timeline.proofs.Times.{chunk_time, section_on}
+use Rattle.lawful_timeline.proofs.Begun.{none_or_before}
 use Rattle.lawful_timeline.proofs.Kept.{Kept, Laws, Next, Sound, low as saved_low, no_path}
 use Rattle.lawful_timeline.proofs.Whole.{one_chunk, sound_first}
 
@@ -186,7 +187,7 @@ module _ (program : Checked) (plan : Plan) where
         let few : (committed_slot plan.layout p.board.image).len ≤ plan.layout.log = sound.committed.formed.len_fits in
         omega arith
 
-    time_next : (p q : Point) (choice : Choice) (outcome : Chunk) → Does plan p choice outcome q → TakesTime p.board → TakesTime q.board
+    pub time_next : (p q : Point) (choice : Choice) (outcome : Chunk) → Does plan p choice outcome q → TakesTime p.board → TakesTime q.board
     time_next p q choice outcome does time = subst (λ (ticks : Class → ℕ). (kind : Class) → 1 ≤ ticks kind) (sym (ticks_same p q choice outcome does)) time
 
     step_next : (p : Point) (c : Link) (v x : Committed) (m : Moment) → Sound program plan laws set_up p.board p.work v m p.dirty → IsChunk plan p c → is_last c.outcome ≡ false → TakesTime p.board → IsInStep p
@@ -275,6 +276,11 @@ module _ (program : Checked) (plan : Plan) where
         })
         lawful
 
-    pub past_throughout : (p : Point) (cs : List Link) → Begins program plan p → TakesTime p.board → HasDoneNone plan p → IsLawful plan p cs → EachPoint (IsPastJobs program plan) p cs
-    past_throughout p cs begins time none lawful =
-        all_past cs p begins.stands.value (moment_of begins.stands.value) (sound_first program plan laws set_up one p begins) time (inr none) lawful
+    pub past_throughout : (p : Point) (cs : List Link) → (b : Begins program plan p) → TakesTime p.board → BeganBefore p.board.tick b.moment.entries → IsLawful plan p cs → EachPoint (IsPastJobs program plan) p cs
+    past_throughout p cs begins time began lawful =
+        all_past cs p begins.stands.value (moment_of begins.stands.value) (sound_first program plan laws set_up one p begins) time
+        (by (none_or_before begins.stands.value.entries p.board.tick (subst (λ (x : Moment). BeganBefore p.board.tick x.entries) (sym begins.stands.is) began))) lawful
+      where
+        by : ((event : ℕ) → counts_of begins.stands.value.entries event ≡ 0) ⊎ (last_start_of begins.stands.value.entries < p.board.tick) → (last_start_of begins.stands.value.entries < p.board.tick) ⊎ HasDoneNone plan p
+        by (inl none) = inr (λ event within. (sound_first program plan laws set_up one p begins).holds.works.done event within ∙ none event)
+        by (inr before) = inl before

@@ -1,5 +1,5 @@
 -- The writes of a commit, each done or lost, in a run that goes on from what is committed to what is saved.
-use Rattle.std.proofs.Common.{◌≡◌, inl, inr, ℕ, ◌≤◌, List, [], ◌∷◌, ◌++◌, length, map, refl, sym, ap, ◌∙◌, subst, arith, append_assoc, append-nil}
+use Rattle.std.proofs.Common.{◌≡◌, inl, inr, ℕ, ◌≤◌, true, List, [], ◌∷◌, ◌++◌, length, map, refl, sym, ap, ◌∙◌, subst, arith, append_assoc, append-nil}
 use Rattle.std.specs.Prelude.{◌⊎◌}
 use Rattle.cat_program.specs.declared.outs.LogEntry.{LogEntry}
 use Rattle.nv_memory.specs.declared.layout.Layout.{Layout}
@@ -18,6 +18,7 @@ use Rattle.image_meaning.specs.Laws.{CommitsAreKept, OperationsAreSafe}
 use Rattle.cn_scheduler.specs.declared.engine.Chunk.{Chunk}
 use Rattle.cn_scheduler.specs.declared.engine.Chunk.TheVariants.{Ended, Dropped, Lost, Over, Full}
 use Rattle.cn_scheduler.specs.Asked.{Asked, plain}
+use Rattle.cn_scheduler.specs.Chunks.{is_last}
 use Rattle.lawful_timeline.proofs.Asking.{Along, Went, limits_with, went_done, went_lost}
 
 -- after each entry the image has committed a moment of a run of its own, an earlier one of the next
@@ -44,6 +45,7 @@ pub record Saved (l : Layout) (s : Setting) (before after : Committed) (start : 
   pub committed : IsCommitted l s.program new.image value
   pub one_of : (value ≡ before) ⊎ (value ≡ after)
   pub ended : outcome ≡ Ended → value ≡ after
+  pub stays : is_last outcome ≡ true → value ≡ before
   pub entries : List Entry
   pub timeline : new.timeline ≡ old.timeline ++ entries
   pub image : new.image ≡ image_by entries old.image
@@ -62,6 +64,7 @@ module _ (l : Layout) (s : Setting) (safe : OperationsAreSafe l s.program) (writ
     committed = kept.lines start left old.image before after under committed;
     one_of = inl refl;
     ended = λ is. absurd (not is);
+    stays = λ is. refl;
     entries = [];
     timeline = sym (append-nil old.timeline);
     image = refl;
@@ -73,14 +76,15 @@ module _ (l : Layout) (s : Setting) (safe : OperationsAreSafe l s.program) (writ
 
   -- a write of the gate, after which a value is committed
   gated : (outcome : Chunk) (old new : State) (went : Went old (gate_write start) new) (value : Committed) → IsUnderWay l after.slot start [] old.image → IsCommitted l s.program new.image value
-      → (value ≡ before) ⊎ (value ≡ after) → (outcome ≡ Ended → value ≡ after) → Saved l s before after start outcome old new
-  gated outcome old new went value under is one ended =
+      → (value ≡ before) ⊎ (value ≡ after) → (outcome ≡ Ended → value ≡ after) → (is_last outcome ≡ true → value ≡ before) → Saved l s before after start outcome old new
+  gated outcome old new went value under is one ended stays =
       let step : image_after went.entry.op old.image ≡ new.image = ap (λ (o : Op). image_after o old.image) went.op_is ∙ sym went.image in
       record {
         value = value;
         committed = is;
         one_of = one;
         ended = ended;
+        stays = stays;
         entries = went.entry ∷ [];
         timeline = went.timeline;
         image = sym step;
@@ -103,14 +107,14 @@ module _ (l : Layout) (s : Setting) (safe : OperationsAreSafe l s.program) (writ
     where
       by_value : IsCommitted l s.program (image_after (leaving (gate_write start) went.bytes) old.image) before ⊎ IsCommitted l s.program (image_after (leaving (gate_write start) went.bytes) old.image) after
           → Saved l s before after start Lost old new
-      by_value (inl is) = gated Lost old new went before under (subst (λ (b : List ℕ). IsCommitted l s.program b before) (sym went.image) is) (inl refl) (λ never. cc)
-      by_value (inr is) = gated Lost old new went after under (subst (λ (b : List ℕ). IsCommitted l s.program b after) (sym went.image) is) (inr refl) (λ never. cc)
+      by_value (inl is) = gated Lost old new went before under (subst (λ (b : List ℕ). IsCommitted l s.program b before) (sym went.image) is) (inl refl) (λ never. cc) (λ never. cc)
+      by_value (inr is) = gated Lost old new went after under (subst (λ (b : List ℕ). IsCommitted l s.program b after) (sym went.image) is) (inr refl) (λ never. cc) (λ never. cc)
 
-  gate_done : (outcome : Chunk) (old new : State) → IsUnderWay l after.slot start [] old.image → IsDone old (gate_write start) new → Saved l s before after start outcome old new
-  gate_done outcome old new under done =
+  gate_done : (old new : State) → IsUnderWay l after.slot start [] old.image → IsDone old (gate_write start) new → Saved l s before after start Ended old new
+  gate_done old new under done =
       let image : new.image ≡ image_after (gate_write start) old.image = ap (λ (x : State). x.image) done.becomes in
-      gated outcome old new (went_done s.program l safe old new (gate_write start) done) after under
-      (subst (λ (b : List ℕ). IsCommitted l s.program b after) (sym image) (kept.done_gate start old.image after large under ready)) (inr refl) (λ is. refl)
+      gated Ended old new (went_done s.program l safe old new (gate_write start) done) after under
+      (subst (λ (b : List ℕ). IsCommitted l s.program b after) (sym image) (kept.done_gate start old.image after large under ready)) (inr refl) (λ is. refl) (λ never. cc)
 
   -- a write of a line, and then what came of the others
   then_saved : (outcome : Chunk) (left : List ℕ) (op : Op) (old mid new : State) → Went old op mid → IsUnderWay l after.slot start left mid.image → Saved l s before after start outcome mid new → Saved l s before after start outcome old new
@@ -121,6 +125,7 @@ module _ (l : Layout) (s : Setting) (safe : OperationsAreSafe l s.program) (writ
         committed = rest.committed;
         one_of = rest.one_of;
         ended = rest.ended;
+        stays = rest.stays;
         entries = went.entry ∷ rest.entries;
         timeline = rest.timeline ∙ ap (λ (es : List Entry). es ++ rest.entries) went.timeline ∙ append_assoc old.timeline (went.entry ∷ []) rest.entries;
         image = rest.image ∙ ap (λ (b : List ℕ). image_by rest.entries b) (sym step);
@@ -146,7 +151,7 @@ module _ (l : Layout) (s : Setting) (safe : OperationsAreSafe l s.program) (writ
   saving floor [] Full old new under (inl stops) = still Full [] old new under (λ never. cc) stops.2
   saving floor [] Over old new under (inl stops) = still Over [] old new under (λ never. cc) stops.2.same
   saving floor [] Lost old new under (inl stops) = gate_lost old new under (went_lost s.program l safe old new (gate_write start) stops.2)
-  saving floor [] Ended old new under (inr goes) = subst (λ (x : State). Saved l s before after start Ended old x) (sym goes.2) (gate_done Ended old goes.0 under goes.1.done)
+  saving floor [] Ended old new under (inr goes) = subst (λ (x : State). Saved l s before after start Ended old x) (sym goes.2) (gate_done old goes.0 under goes.1.done)
   saving floor [] Dropped old new under (inr goes) = absurd goes.2
   saving floor [] Full old new under (inr goes) = absurd goes.2
   saving floor [] Over old new under (inr goes) = absurd goes.2

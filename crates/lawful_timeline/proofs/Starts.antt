@@ -21,12 +21,13 @@ use Rattle.cn_scheduler.specs.Point.{Point, Work, work_of}
 use Rattle.cn_scheduler.specs.Belongs.{BelongTogether}
 use Rattle.lawful_timeline.specs.Working.{IsSetUp, setting_of}
 use Rattle.lawful_timeline.specs.Claims.{Begins}
-use Rattle.lawful_timeline.specs.Starting.{StartsFresh, first_work}
+use Rattle.lawful_timeline.specs.Starting.{BeginsSaved, StartsFresh, StartsSaved, first_work}
+use Rattle.lawful_timeline.proofs.Begun.{last_began}
 use Rattle.lawful_timeline.proofs.Works.{Holds, committed_holds, shape_of}
 
 module _ (program : Checked) (plan : Plan) (writes : WritesAreLocal) (parts : PartsAreApart plan.layout) (long : (s : Slot) → length (spelling plan.layout s) ≡ 64 * lines_of plan.layout)
     (one : ImagesStandForOne plan.layout program) (go_on : OwnRunsGoOn (setting_of program plan)) where
-  fresh_size : (image : List ℕ) → IsFresh program plan.layout image → length image ≡ size_of plan.layout
+  pub fresh_size : (image : List ℕ) → IsFresh program plan.layout image → length image ≡ size_of plan.layout
   fresh_size image fresh =
       let zeros : length (replicate (size_of plan.layout) 0) ≡ size_of plan.layout = length-replicate (size_of plan.layout) 0 in
       let bytes = long fresh.slot in
@@ -53,6 +54,45 @@ module _ (program : Checked) (plan : Plan) (writes : WritesAreLocal) (parts : Pa
     clean = starts.clean;
     work_is = starts.work_is ∙ first_again starts.fresh.slot starts.fresh.first ∙ ap work_of (sym starts.fresh.committed.slot_is);
   }
+
+  pub fresh : (p : Point) → StartsFresh program plan p → StartsSaved program plan p
+  fresh p starts = record {
+    saved = record {
+      moment = first_moment program;
+      stands = one.fresh p.board.image starts.fresh;
+      own = go_on.first;
+      steps = omega arith;
+      began = λ i event version steps start index is. cc;
+      large = (let size = fresh_size p.board.image starts.fresh in omega arith);
+    };
+    off = starts.off;
+    clean = starts.clean;
+    work_is = starts.work_is ∙ first_again starts.fresh.slot starts.fresh.first ∙ ap work_of (sym starts.fresh.committed.slot_is);
+  }
+
+-- a saved image begins
+pub saved : (program : Checked) (plan : Plan) (p : Point) → StartsSaved program plan p → BeginsSaved program plan p
+saved program plan p starts =
+    let is : IsCommitted plan.layout program p.board.image starts.saved.stands.value = starts.saved.stands.committed in
+    let work : p.work.steps ≡ (committed_slot plan.layout p.board.image).steps = ap (λ (w : Work). w.steps) starts.work_is in
+    let slot : (committed_slot plan.layout p.board.image).steps ≡ starts.saved.stands.value.slot.steps = ap (λ (s : Slot). s.steps) is.slot_is in
+    let moment : starts.saved.stands.value.slot.steps ≡ starts.saved.moment.steps = ap (λ (m : Moment). m.steps) starts.saved.stands.is in
+    let few = starts.saved.steps in
+    record {
+      begins = record {
+        moment = starts.saved.moment;
+        stands = starts.saved.stands;
+        own = starts.saved.own;
+        start = last_began starts.saved.moment.entries p.board.tick starts.saved.began;
+        large = starts.saved.large;
+        off = starts.off;
+        clean = starts.clean;
+        work_is = starts.work_is;
+      };
+      steps = starts.saved.steps;
+      few = omega arith;
+      began = starts.saved.began;
+    }
 
 -- what begins belongs together
 pub belong : (program : Checked) (plan : Plan) (p : Point) → IsSetUp program plan → (b : Begins program plan p) → b.moment.steps ≤ p.board.tick → BelongTogether program plan p

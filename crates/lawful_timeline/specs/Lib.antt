@@ -1,4 +1,5 @@
 pub mod Claims
+pub mod Ending
 pub mod Lines
 pub mod Points
 pub mod Starting

@@ -1,5 +1,7 @@
 -- What holds at each decision point of a timeline on a board whose operations take time.
-use Rattle.std.specs.Prelude.{◌≡◌, ◌⊎◌, ℕ, ◌<◌, ◌≤◌, List, slice_index}
+use Rattle.std.specs.Prelude.{◌≡◌, ◌⊎◌, ℕ, ◌<◌, ◌≤◌, List, Some, slice_get, slice_index}
+use Rattle.cat_program.specs.declared.outs.LogEntry.{LogEntry}
+use Rattle.cat_program.specs.declared.outs.LogEntry.TheVariants.{Ran}
 use Rattle.cat_program.specs.Checked.{Checked}
 use Rattle.nv_memory.specs.declared.device.Class.{Class}
 use Rattle.nv_memory.specs.Board.{State}
@@ -16,6 +18,10 @@ use Rattle.lawful_timeline.specs.Claims.{Begins, EachPoint}
 abbrev pub TakesTime : State → Type 0
 TakesTime board = (kind : Class) → 1 ≤ board.ticks kind
 
+-- each job that some entries tell began before a tick
+abbrev pub BeganBefore : ℕ → List LogEntry → Type 0
+BeganBefore tick entries = (i event version steps start index : ℕ) → slice_get entries i ≡ Some (Ran event version steps start index) → start < tick
+
 -- no arrival is done
 abbrev pub HasDoneNone : Plan → Point → Type 0
 HasDoneNone plan p = (event : ℕ) → event < plan.layout.events → slice_index p.work.done event ≡ 0
@@ -31,6 +37,6 @@ pub record PointsHold (program : Checked) (plan : Plan) : Type 0 where
   -- plan, engine and board belong together, where they have taken no more steps than ticks at first
   pub belong : (p : Point) (cs : List Link) → IsSetUp program plan → Begins program plan p → TakesTime p.board → p.work.steps ≤ p.board.tick → IsLawful plan p cs
       → EachPoint (BelongTogether program plan) p cs
-  -- no job began as late as now, where none is done at first
-  pub past : (p : Point) (cs : List Link) → IsSetUp program plan → Begins program plan p → TakesTime p.board → HasDoneNone plan p → IsLawful plan p cs
+  -- no job began as late as now, where none did at first
+  pub past : (p : Point) (cs : List Link) → IsSetUp program plan → (b : Begins program plan p) → TakesTime p.board → BeganBefore p.board.tick b.moment.entries → IsLawful plan p cs
       → EachPoint (IsPastJobs program plan) p cs

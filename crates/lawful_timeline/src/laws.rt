@@ -1,6 +1,7 @@
 ghost use Rattle.cat_program.specs.Checked.{Checked};
 ghost use Rattle.cn_scheduler.specs.declared.plan.Plan.{Plan};
 ghost use Rattle.lawful_timeline.specs.Claims.{LawfulTimelinesHold};
+ghost use Rattle.lawful_timeline.specs.Ending.{EndsHold};
 ghost use Rattle.lawful_timeline.specs.Lines.{TimelinesGrow};
 ghost use Rattle.lawful_timeline.specs.Points.{PointsHold};
 ghost use Rattle.lawful_timeline.specs.Starting.{StartsBelong};
@@ -31,7 +32,8 @@ pub fn timelines_grow()
     ensures { (plan : Plan) → TimelinesGrow plan }
 {}
 
-/// A board that is off with the first image, and the first working value, begin a lawful timeline, and belong together.
+/// A board that is off with the first image and the first working value begins a lawful timeline, and so does one with a saved image
+/// and the value that it has committed. In each case they belong together.
 pub fn starts_belong()
     ensures { (program : Checked) (plan : Plan) → StartsBelong program plan }
 {
@@ -46,6 +48,21 @@ pub fn starts_belong()
 /// job that began there began before it.
 pub fn points_hold()
     ensures { (program : Checked) (plan : Plan) → PointsHold program plan }
+{
+    runs_are_steps();
+    commits_are_safe();
+    own_runs_go_on();
+    entries_tell();
+    earlier_runs_are_ordered();
+    commits_are_kept();
+    images_stand_for_one();
+    operations_are_safe();
+}
+
+/// What a lawful timeline leaves is what a run can go on from, as the board that it began with: the image stands for a run of its own
+/// with no more steps than ticks, each of whose jobs began before the end. So it is also where the last chunk stopped within a commit.
+pub fn ends_hold()
+    ensures { (program : Checked) (plan : Plan) → EndsHold program plan }
 {
     runs_are_steps();
     commits_are_safe();

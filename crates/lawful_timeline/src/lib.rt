@@ -3,4 +3,4 @@
 
 mod laws;
 
-pub use laws::{lawful_timelines_hold, points_hold, starts_belong, timelines_grow};
+pub use laws::{ends_hold, lawful_timelines_hold, points_hold, starts_belong, timelines_grow};

@@ -1,5 +1,5 @@
--- Runs from a fresh image: no arrival that comes at or after a tick is done by then, and the log goes on to tell what it has told.
-use Rattle.std.proofs.Common.{◌≡◌, ℕ, zero, suc, ◌+◌, ◌<◌, ◌≤◌, inl, inr, List, [], ◌∷◌, ◌++◌, length, take, refl, sym, ap, subst, ◌∙◌, arith, Some, replicate, length-append}
+-- Runs from a saved image, as a fresh one is too: no arrival that comes at or after a tick is done by then, and the log goes on to tell what it has told.
+use Rattle.std.proofs.Common.{◌≡◌, ℕ, zero, suc, ◌+◌, ◌<◌, ◌≤◌, inl, inr, List, [], ◌∷◌, ◌++◌, length, take, refl, sym, ap, subst, ◌∙◌, arith, Some, length-append}
 use Rattle.std.specs.Prelude.{slice_get, slice_index}
 use Rattle.std.proofs.lemmas.Bool.{cases_lt}
 use Rattle.std.proofs.lemmas.List.{take_all}
@@ -19,17 +19,17 @@ use Rattle.logged_runs.specs.Own.{IsPrefixOf}
 use Rattle.logged_runs.specs.Laws.{last_start_of}
 use Rattle.image_meaning.specs.Standing.{StandsFor}
 use Rattle.cn_scheduler.specs.declared.plan.Plan.{Plan}
-use Rattle.cn_scheduler.specs.Point.{Point, Work}
+use Rattle.cn_scheduler.specs.Point.{Point}
 use Rattle.cn_scheduler.specs.Chunks.{Link, IsLawful, point_after, entries_of}
 use Rattle.cn_scheduler.specs.Belongs.{IsPlanOf}
 use Rattle.lawful_timeline.specs.Working.{setting_of}
 use Rattle.lawful_timeline.specs.Claims.{Begins, EachPoint, HoldsThroughout, image_at}
-use Rattle.lawful_timeline.specs.Points.{HasDoneNone, IsPastJobs}
-use Rattle.lawful_timeline.specs.Starting.{StartsBelong}
+use Rattle.lawful_timeline.specs.Points.{IsPastJobs}
+use Rattle.lawful_timeline.specs.Starting.{BeginsSaved, StartsBelong}
 use Rattle.calm_timeline.specs.Calm.{board_after}
 use Rattle.calm_timeline.specs.Numbers.{IsPlanned}
 use Rattle.recovery.specs.Past.{Past}
-use Rattle.timely_commits.specs.Timely.{past_of, FreshRunsAreOnTime, IsLoggedBy, IsTimely, IsToldBy}
+use Rattle.timely_commits.specs.Timely.{past_of, FreshRunsAreOnTime, ResumedRunsAreOnTime, IsLoggedBy, IsTimely, IsToldBy}
 use Rattle.timely_commits.proofs.Told.{LowerLaws, declared, entries_on, first_each, front_lawful, last_of, point_on, rest_each, timely, whole}
 
 pub record FreshLaws : Type 0 where
@@ -89,11 +89,6 @@ module _ (program : Checked) (plan : Plan) (first : Point) where
 
 -- ---- what comes is not done
 
-none_done : (n e : ℕ) → slice_index (replicate n 0) e ≡ 0
-none_done zero e = refl
-none_done (suc n) zero = refl
-none_done (suc n) (suc e) = none_done n e
-
 module _ (laws : FreshLaws) (program : Checked) (device : Device) (b : BoundsValue) (plan : Plan) (planned : IsPlanned program device b plan) where
   -- an arrival that comes at or after a tick is not among those that came before it
   not_come : (event k s : ℕ) (arrival : Arrival) → arrival_at plan.queue.arrivals event k ≡ Some arrival → s ≤ arrival.tick → came plan.queue.arrivals event s ≤ k
@@ -122,25 +117,22 @@ module _ (laws : FreshLaws) (program : Checked) (device : Device) (b : BoundsVal
         | inr none ↦ let zero = none event (omega arith) in omega arith
       ]
 
-pub fresh_runs : FreshLaws → FreshRunsAreOnTime
-fresh_runs laws program device b plan origin first links planned set_up fresh board lawful before after chunk row p q z is fits calm =
+pub resumed_runs : FreshLaws → ResumedRunsAreOnTime
+resumed_runs laws program device b plan origin first links planned set_up starts board lawful before after chunk row p q z is fits calm =
     record {
       meets = its.meets;
       told = told;
       logged = λ event k arrival at from till. at_end event k (arrival.tick + slice_index plan.queue.deadlines event) arrival (told event k arrival at from till);
     }
   where
+    saved : BeginsSaved program plan first
+    saved = (laws.starts program plan).saved first starts
+
     begins : Begins program plan first
-    begins = (laws.starts program plan).begins first fresh
-
-    few : first.work.steps ≤ first.board.tick
-    few = let none : first.work.steps ≡ 0 = ap (λ (w : Work). w.steps) fresh.work_is in omega arith
-
-    none : HasDoneNone plan first
-    none event less = ap (λ (w : Work). slice_index w.done event) fresh.work_is ∙ none_done plan.layout.events event
+    begins = ((laws.starts program plan).saved first starts).begins
 
     its : IsTimely program plan (past_of plan first links) row (point_after first before) (chunk ∷ after) z
-    its = timely laws.lower program device b plan origin first links planned set_up begins few board lawful before after chunk row p q z is fits calm
+    its = timely laws.lower program device b plan origin first links planned set_up begins saved.few board lawful before after chunk row p q z is fits calm
 
     its_lawful : IsLawful plan first (before ++ chunk ∷ after)
     its_lawful = subst (λ (ls : List Link). IsLawful plan first ls) is lawful
@@ -149,7 +141,7 @@ fresh_runs laws program device b plan origin first links planned set_up fresh bo
     past =
         first_each (IsPastJobs program plan) (point_after first before) (chunk ∷ after)
         (rest_each (IsPastJobs program plan) plan before chunk after first its_lawful
-        (subst (λ (ls : List Link). EachPoint (IsPastJobs program plan) first ls) is ((laws.lower.points program plan).past first links set_up begins board.some_ticks none lawful)))
+        (subst (λ (ls : List Link). EachPoint (IsPastJobs program plan) first ls) is ((laws.lower.points program plan).past first links set_up ((laws.starts program plan).saved first starts).begins board.some_ticks ((laws.starts program plan).saved first starts).began lawful)))
 
     told : (event k : ℕ) (arrival : Arrival) → arrival_at plan.queue.arrivals event k ≡ Some arrival → (point_after first before).board.tick ≤ arrival.tick →
         arrival.tick + slice_index plan.queue.deadlines event ≤ z → IsToldBy program plan (past_of plan first links) (chunk ∷ after) event k (arrival.tick + slice_index plan.queue.deadlines event) arrival
@@ -171,3 +163,7 @@ fresh_runs laws program device b plan origin first links planned set_up fresh bo
         let end : board_after first links ≡ board_after (point_after first before) (chunk ∷ after) = ap (λ (ls : List Link). board_after first ls) is ∙ ap (λ (pt : Point). pt.board) (point_on before (chunk ∷ after) first) in
         subst (λ (s : State). IsLoggedBy program plan (past_of plan first links) s.image event k d arrival) end
         (logged_on program plan first (past_of plan first links) (before ++ by.served.before ++ by.served.job ∷ []) links by.served.after event k d arrival (whole links before chunk after is by.served) front_holds holds logged)
+
+pub fresh_runs : FreshLaws → FreshRunsAreOnTime
+fresh_runs laws program device b plan origin first links planned set_up fresh board lawful =
+    resumed_runs laws program device b plan origin first links planned set_up ((laws.starts program plan).fresh first fresh) board lawful

@@ -15,7 +15,7 @@ use Rattle.cn_scheduler.specs.Point.{Point}
 use Rattle.cn_scheduler.specs.Chunks.{Link, IsLawful, point_after, entries_of}
 use Rattle.lawful_timeline.specs.Working.{IsSetUp, setting_of}
 use Rattle.lawful_timeline.specs.Claims.{Begins}
-use Rattle.lawful_timeline.specs.Starting.{StartsFresh}
+use Rattle.lawful_timeline.specs.Starting.{StartsFresh, StartsSaved}
 use Rattle.calm_timeline.specs.Calm.{IsCalm, board_after}
 use Rattle.calm_timeline.specs.Claims.{IsServed, MeetsDeadlines}
 use Rattle.recovery.specs.Past.{Past, done_at}
@@ -84,4 +84,12 @@ abbrev pub FreshRunsAreOnTime : Type 0
 FreshRunsAreOnTime =
     (program : Checked) (device : Device) (b : BoundsValue) (plan : Plan) (origin : ℕ) (first : Point) (links : List Link) →
     IsPlanned program device b plan → IsSetUp program plan → StartsFresh program plan first → IsBoardOf device origin first.board → IsLawful plan first links →
+    AreOnTime program device b plan origin first links
+
+-- So it is with every run that goes on from a saved image: no arrival that comes in a calm stretch is done before, by this run or by
+-- the one whose image it was.
+abbrev pub ResumedRunsAreOnTime : Type 0
+ResumedRunsAreOnTime =
+    (program : Checked) (device : Device) (b : BoundsValue) (plan : Plan) (origin : ℕ) (first : Point) (links : List Link) →
+    IsPlanned program device b plan → IsSetUp program plan → StartsSaved program plan first → IsBoardOf device origin first.board → IsLawful plan first links →
     AreOnTime program device b plan origin first links

@@ -2,7 +2,7 @@
 #![tactic(auto)]
 
 ghost use Rattle.timely_commits.specs.InTime.{CommitsInTime};
-ghost use Rattle.timely_commits.specs.Timely.{FreshRunsAreOnTime, TimelyLaw};
+ghost use Rattle.timely_commits.specs.Timely.{FreshRunsAreOnTime, ResumedRunsAreOnTime, TimelyLaw};
 
 use calm_timeline::{calm_law, entries_end_law};
 use event_arrivals::arrivals_are_counted;
@@ -28,6 +28,21 @@ pub fn timely_law()
 /// committed entry from then on up to the run's end.
 pub fn fresh_runs_are_on_time()
     ensures { FreshRunsAreOnTime }
+{
+    starts_belong();
+    calm_law();
+    entries_end_law();
+    lawful_timelines_hold();
+    points_hold();
+    arrivals_are_counted();
+    own_runs_go_on();
+    own_runs_handle_arrivals();
+}
+
+/// In every calm stretch of a run that goes on from a saved image each arrival that comes and is due in it is served by its deadline,
+/// and told by one committed entry from then on up to the run's end.
+pub fn resumed_runs_are_on_time()
+    ensures { ResumedRunsAreOnTime }
 {
     starts_belong();
     calm_law();

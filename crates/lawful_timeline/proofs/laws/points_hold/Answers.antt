@@ -17,5 +17,5 @@ returns c = λ program plan.
     } in
     record {
       belong = λ p cs set_up begins time few lawful. belong_throughout program plan laws set_up (c.images_stand_for_one.ensures plan.layout program) p cs begins time few lawful;
-      past = λ p cs set_up begins time none lawful. past_throughout program plan laws set_up (c.images_stand_for_one.ensures plan.layout program) p cs begins time none lawful;
+      past = λ p cs set_up begins time before lawful. past_throughout program plan laws set_up (c.images_stand_for_one.ensures plan.layout program) p cs begins time before lawful;
     }
