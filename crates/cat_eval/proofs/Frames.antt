@@ -14,7 +14,7 @@ use Rattle.cat_eval.specs.declared.state.Frame.{Frame}
 use Rattle.cat_eval.specs.Cursor.{frame_body, cursor_body, CursorFits, Settled}
 use Rattle.cat_eval.specs.StateValue.{StateValue}
 
-drop_next : (ss : List Stmt) (n : ℕ) (s : Stmt) → slice_get ss n ≡ Some s → drop n ss ≡ s ∷ drop (n + 1) ss
+pub drop_next : (ss : List Stmt) (n : ℕ) (s : Stmt) → slice_get ss n ≡ Some s → drop n ss ≡ s ∷ drop (n + 1) ss
 drop_next [] n s e = cc
 drop_next (y ∷ ss) zero s e = let same : y ≡ s = cc in ap (λ z. z ∷ ss) same
 drop_next (y ∷ ss) (suc n) s e = let more : suc (n + 1) ≡ suc n + 1 = omega arith in drop_next ss n s e ∙ ap (λ j. s ∷ drop j (y ∷ ss)) more

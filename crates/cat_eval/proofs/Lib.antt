@@ -4,3 +4,11 @@ pub mod Stepping
 pub mod Beginning
 pub mod Room
 pub mod Handling
+pub mod Parts
+pub mod SizeRows
+pub mod Sizing
+pub mod Marks
+pub mod Finding
+pub mod TaskPlaces
+pub mod Told
+pub mod Leaving

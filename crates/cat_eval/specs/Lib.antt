@@ -1,3 +1,4 @@
 pub mod StateValue
 pub mod Cursor
 pub mod Steps
+pub mod Places

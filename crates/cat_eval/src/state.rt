@@ -117,6 +117,13 @@ impl State {
         self.words.as_slice()
     }
 
+    /// The frames, the outermost first.
+    pub(crate) fn frames(&self) -> &[Frame]
+        ensures { reverse result.now ≡ self.now.frames }
+    {
+        self.frames.as_slice()
+    }
+
     pub(crate) fn is_running(&self) -> bool
         ensures { result ≡ self.now.running }
     {
