@@ -1,5 +1,5 @@
--- The committed log of a replay.
-use Rattle.std.proofs.Common.{◌≡◌, ℕ, pos, ◌≤◌, ◌<◌, List, [], ◌∷◌, length, get_or, replicate, Option, Some, sym, ap, ◌∙◌, subst, arith}
+-- The committed log of a run.
+use Rattle.std.proofs.Common.{◌≡◌, ℕ, ℤ, pos, ◌≤◌, ◌<◌, List, [], ◌∷◌, length, get_or, replicate, Option, Some, sym, ap, ◌∙◌, subst, arith}
 use Rattle.std.proofs.lemmas.Option.{slice_get-get_or}
 use Rattle.cat_program.specs.Checked.{Checked}
 use Rattle.cat_program.specs.declared.outs.LogEntry.{LogEntry}
@@ -8,7 +8,8 @@ use Rattle.nv_memory.specs.declared.layout.Layout.{Layout}
 use Rattle.nv_memory.specs.declared.entry.Entry.{Entry}
 use Rattle.nv_memory.specs.declared.entry.Op.{Op}
 use Rattle.nv_memory.specs.declared.entry.Op.TheVariants.{Instr, Emit, Write, Wake, Sleep}
-use Rattle.std.proofs.lemmas.List.{length-replicate}
+use Rattle.std.specs.Int.{cast_signed, w32}
+use Rattle.std.proofs.lemmas.List.{length-map, length-replicate}
 use Rattle.nv_memory.specs.Layout.{slot_at, size_of}
 use Rattle.nv_memory.specs.Board.{State, Start, IsSound, image_after, image_by}
 use Rattle.checkpoint_slots.specs.declared.slot.Slot.{Slot}
@@ -19,19 +20,26 @@ use Rattle.recovery.specs.First.{IsFresh}
 use Rattle.std.proofs.lemmas.Option.{same_Some}
 use Rattle.cat_program.specs.declared.headers.Event.{Event}
 use Rattle.event_arrivals.specs.Arrivals.{Lists}
-use Rattle.cn_report.specs.Outcome.{log_line, record_line}
-use Rattle.recovery.specs.Past.{Past, past_of, done_at, committed_at, last_image, last_slot, entry_in}
+use Rattle.cn_report.specs.Outcome.{known_at, log_line, record_line}
+use Rattle.recovery.specs.Past.{Past, past_of, committed_at, last_image, last_slot, entry_in}
 use Rattle.cn_report.specs.Whole.{IsReplayed}
 use Rattle.cn_report.proofs.Written.{length-written}
 use Rattle.cn_report.proofs.Moments.{committed-is, image-none, image-last, sound-last}
 
 -- at first nothing is committed
-pub none-first : (program : Checked) (past : Past) → IsReplayed program past → (committed_at past 0).len ≡ 0
-none-first program past r =
+pub none-first : (program : Checked) (past : Past) → IsFresh program past.layout past.first → (committed_at past 0).len ≡ 0
+none-first program past fresh =
     sym (ap (λ (s : Slot). s.len) (committed-is past 0))
     ∙ ap (λ (image : List ℕ). (committed_slot past.layout image).len) (sym (image-none past))
-    ∙ ap (λ (s : Slot). s.len) r.fresh.committed.slot_is
-    ∙ r.fresh.first.len
+    ∙ ap (λ (s : Slot). s.len) fresh.committed.slot_is
+    ∙ fresh.first.len
+
+-- a first image has the program's words
+pub fresh-words : (program : Checked) (l : Layout) (image : List ℕ) → IsFresh program l image → l.words ≡ length program.words
+fresh-words program l image fresh =
+    sym fresh.first.made.words
+    ∙ sym (length-map fresh.slot.words (cast_signed w32))
+    ∙ ap (λ (words : List ℤ). length words) fresh.first.variables
 
 -- ---- the image stays as long as it was
 
@@ -49,14 +57,14 @@ length-by (entry ∷ entries) image = omega (arith, length-after entry.op image,
 pub length-last : (past : Past) → length past.first ≤ length (last_image past)
 length-last past = omega (arith, length-by past.timeline past.first, ap length (image-last past))
 
-fresh-long : (program : Checked) (l : Layout) (image : List ℕ) → IsFresh program l image → size_of l ≤ length image
+pub fresh-long : (program : Checked) (l : Layout) (image : List ℕ) → IsFresh program l image → size_of l ≤ length image
 fresh-long program l image fresh =
     omega (arith, ap length fresh.image_is, length-written (slot_at l 0) (spelling l fresh.slot) (replicate (size_of l) 0), length-replicate {A = ℕ} (size_of l) 0)
 
-module _ (program : Checked) (l : Layout) (start : Start) (s : State) (sound : IsSound start s) (r : IsReplayed program (past_of l start s)) where
-  pub image-long : size_of l ≤ length s.image
-  image-long = omega (arith, fresh-long program l start.image r.fresh, length-last (past_of l start s), ap length (sound-last l start s sound))
+pub image-long : (l : Layout) (start : Start) (s : State) → IsSound start s → size_of l ≤ length start.image → size_of l ≤ length s.image
+image-long l start s sound large = omega (arith, large, length-last (past_of l start s), ap length (sound-last l start s sound))
 
+module _ (program : Checked) (l : Layout) (start : Start) (s : State) (sound : IsSound start s) (r : IsReplayed program (past_of l start s)) where
   pub image-formed : IsWellFormed l (committed_bytes l s.image)
   image-formed = subst (λ (image : List ℕ). IsWellFormed l (committed_bytes l image)) (sym (sound-last l start s sound)) r.committed.formed
 
@@ -95,6 +103,8 @@ module _ (program : Checked) (past : Past) (r : IsReplayed program past) where
     pub some_is : (image : List ℕ) (e : LogEntry) → image ≡ last_image past → IsFound past.layout program (record_bytes past.layout place image) (Some e) → e ≡ entry_in past place
     some_is image e same is = same_Some e (entry_in past place) (found_is image (Some e) same is)
 
-pub record-is : (headers : List Event) (lists : Lists) (past : Past) (place done : ℕ) (e : LogEntry) → done ≡ done_at past place → e ≡ entry_in past place → log_line headers lists done e ≡ record_line headers lists past place
+pub record-is : (headers : List Event) (lists : Lists) (past : Past) (start place : ℕ) (done : Option ℕ) (e : LogEntry) → done ≡ known_at past start place → e ≡ entry_in past place
+    → log_line headers lists done e ≡ record_line headers lists past start place
 unfolding record_line
-record-is headers lists past place done e done_is e_is = ap (λ (t : ℕ). log_line headers lists t e) done_is ∙ ap (log_line headers lists (done_at past place)) e_is
+record-is headers lists past start place done e done_is e_is =
+    ap (λ (t : Option ℕ). log_line headers lists t e) done_is ∙ ap (log_line headers lists (known_at past start place)) e_is

@@ -55,6 +55,12 @@ byte_in at n i image within = get_or-take n (drop at image) i 0 within ∙ get_o
 pub length-bytes_at : (at n : ℕ) (image : List ℕ) → at + n ≤ length image → length (bytes_at at n image) ≡ n
 length-bytes_at at n image within = grind (arith, common_steps)
 
+-- a window that read each byte
+pub window_of : (image read : List ℕ) (at : ℕ) → at + 8 ≤ length image → length read ≡ 8 → ((i : ℕ) → i < 8 → get_or read i 0 ≡ get_or image (at + i) 0) → read ≡ bytes_at at 8 image
+window_of image read at within size taken =
+    ext_get_or 0 read (bytes_at at 8 image) (size ∙ sym (length-bytes_at at 8 image within)) (λ i below.
+    let under : i < 8 = omega (arith, below, size) in taken i under ∙ sym (byte_in at 8 i image under))
+
 -- a window that took over each byte
 pub window_after : (image left old new : List ℕ) (place at : ℕ) → place + 8 ≤ length image → old ≡ bytes_at place 8 image → length new ≡ length old
     → ((i : ℕ) → i < 8 → get_or new i 0 ≡ byte_then (get_or old i 0) (place + i) at left)

@@ -1,6 +1,7 @@
 pub mod Report
 pub mod Bytes
 pub mod Windows
+pub mod Kept
 pub mod Passed
 pub mod Story
 pub mod Outcome

@@ -1,5 +1,5 @@
 -- The lines of what came of it: the committed log, how it ended, and the variables.
-use Rattle.std.specs.Prelude.{ℕ, ◌+◌, ℤ, pos, List, [], ◌∷◌, map, nat_le, if◌then◌else◌, Bool, slice_get, slice_index_or, codes, decimal}
+use Rattle.std.specs.Prelude.{ℕ, ◌+◌, ℤ, pos, List, [], ◌∷◌, map, nat_le, nat_lt, if◌then◌else◌, Bool, Option, Some, None, slice_get, slice_index_or, codes, decimal}
 use Rattle.std.specs.Fmt.{signed_decimal}
 use Rattle.std.specs.List.{flat_map, range_with_len}
 use Rattle.std.specs.Option.{option_map_or}
@@ -37,18 +37,29 @@ abbrev pub ran_line : List ℕ → ℕ → ℕ → ℕ → ℕ → ℕ → List 
 ran_line name index version arrived started done word =
     line (codes "ran" ∷ name ∷ decimal index ∷ decimal version ∷ decimal arrived ∷ decimal started ∷ decimal done ∷ word ∷ [])
 
--- of an entry of the log that was committed at a tick
-abbrev pub log_line : List Event → Lists → ℕ → LogEntry → List ℕ
+-- where it was there before the run began, which doesn't know when it was done
+abbrev pub before_line : List ℕ → ℕ → ℕ → ℕ → ℕ → List ℕ
+before_line name index version arrived started =
+    line (codes "ran" ∷ name ∷ decimal index ∷ decimal version ∷ decimal arrived ∷ decimal started ∷ codes "-" ∷ codes "before" ∷ [])
+
+-- of an entry of the log, by the tick at which it was committed, where that is known
+abbrev pub log_line : List Event → Lists → Option ℕ → LogEntry → List ℕ
 log_line headers lists done (Out channel value) = out_line channel value
-log_line headers lists done (Ran event version steps start index) =
+log_line headers lists (Some done) (Ran event version steps start index) =
     ran_line (name_of (slice_get headers event)) index version (arrived_at lists event index) start done (word_of (nat_le done (due_at headers lists event index)))
+log_line headers lists None (Ran event version steps start index) =
+    before_line (name_of (slice_get headers event)) index version (arrived_at lists event index) start
+
+-- what a run knows of when the record at a place was committed: nothing of the first `from` ones, which were there before it began
+abbrev pub known_at : Past → ℕ → ℕ → Option ℕ
+known_at past from place = if nat_lt place from then None else Some (done_at past place)
 
 -- the line of the record at a place
-unfoldable pub record_line : List Event → Lists → Past → ℕ → List ℕ
-record_line headers lists past place = log_line headers lists (done_at past place) (entry_in past place)
+unfoldable pub record_line : List Event → Lists → Past → ℕ → ℕ → List ℕ
+record_line headers lists past from place = log_line headers lists (known_at past from place) (entry_in past place)
 
-abbrev pub log_text : List Event → Lists → Past → List ℕ
-log_text headers lists past = in_turn (record_line headers lists past) (last_slot past).len
+abbrev pub log_text : List Event → Lists → Past → ℕ → List ℕ
+log_text headers lists past from = in_turn (record_line headers lists past from) (last_slot past).len
 
 -- ---- the end
 

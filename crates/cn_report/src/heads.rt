@@ -1,10 +1,10 @@
 //! The head of what an image has committed, kept up with the operations of a timeline.
 
-ghost use Rattle.std.specs.Prelude.{◌≡◌, ◌%◌, ◌==◌, if◌then◌else◌, slice_index, ℕ, List};
+ghost use Rattle.std.specs.Prelude.{◌≡◌, ◌≤◌, ◌%◌, ◌==◌, if◌then◌else◌, length, slice_index, ℕ, List};
 
 use crate::window::Window;
 use checkpoint_slots::slots_are_read_again;
-use nv_memory::{Layout, Op};
+use nv_memory::{Board, Layout, Op, parts_are_apart};
 
 /// The first bytes of an image, where the gate is, and those of both slots, where their lengths and steps are.
 #[derive(Clone, Copy, Debug)]
@@ -18,6 +18,7 @@ impl Heads {
     ghost use Rattle.cat_program.specs.Checked.{Checked};
     ghost use Rattle.nv_memory.specs.declared.layout.Layout.{Layout as Places};
     ghost use Rattle.nv_memory.specs.Bytes.{written};
+    ghost use Rattle.nv_memory.specs.Layout.{size_of};
     ghost use Rattle.nv_memory.specs.Board.{image_after};
     ghost use Rattle.checkpoint_slots.specs.Image.{committed_slot};
     ghost use Rattle.recovery.specs.First.{IsFresh};
@@ -32,6 +33,19 @@ impl Heads {
             gate: Window::blank(),
             first: Window::blank(),
             second: Window::blank(),
+        }
+    }
+
+    /// Those of the image that a board holds.
+    pub(crate) fn of<B: Board>(board: &B, layout: &Layout) -> Heads
+        requires { size_of layout.now ≤ length (B.state board.now).image }
+        ensures { AreHeads layout.now (B.state board.now).image result }
+    {
+        parts_are_apart();
+        Heads {
+            gate: Window::of(board, 0),
+            first: Window::of(board, layout.slot_at(0)),
+            second: Window::of(board, layout.slot_at(1)),
         }
     }
 

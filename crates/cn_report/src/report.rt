@@ -1,17 +1,19 @@
-//! The report of a replay.
+//! The report of a run, from the first image of a program on or from one that was saved.
 
-ghost use Rattle.std.specs.Prelude.{◌≡◌, ◌∷◌, [], codes, decimal, length};
+ghost use Rattle.std.specs.Prelude.{◌≡◌, ◌≤◌, ◌∷◌, [], codes, decimal, length};
 ghost use Rattle.cn_base.specs.Causes.{HasCause};
 ghost use Rattle.cn_base.specs.PageWords.{AddsTo, sink_in, sink_name};
 ghost use Rattle.cn_base.specs.Writing.{Writes};
 ghost use Rattle.nv_memory.specs.Board.{IsSound};
+ghost use Rattle.nv_memory.specs.Layout.{size_of};
 ghost use Rattle.checkpoint_slots.specs.Slot.{IsMadeFor};
 ghost use Rattle.degradation.specs.Choice.{Suits};
 ghost use Rattle.cn_base.specs.Texts.{line};
-ghost use Rattle.recovery.specs.Past.{past_of};
+ghost use Rattle.recovery.specs.First.{IsFresh};
+ghost use Rattle.recovery.specs.Past.{past_of, committed_at};
 ghost use Rattle.cn_report.specs.Outcome.{end_word};
-ghost use Rattle.cn_report.specs.Whole.{outcome_text, report_text, IsReplayed};
-ghost use Rattle.cn_report.specs.Windows.{AreHeads};
+ghost use Rattle.cn_report.specs.Whole.{outcome_text, resumed_text, report_text, IsReplayed};
+ghost use Rattle.cn_report.specs.Kept.{HasKept};
 
 use crate::chosen::add_chosen;
 use crate::heads::Heads;
@@ -69,19 +71,23 @@ fn add_outcome<B: Board, K: Sink>(
     layout: &Layout,
     board: &B,
     end: End,
-    heads: Heads,
+    from: u32,
     shadow: &mut Shadow,
 ) -> Result<(), WriteFail>
     requires events { length arrivals.now.timings ≡ length program.now.events }
     requires sound { IsSound (B.start (B.origin board.now)) (B.state board.now) }
+    requires words { layout.now.words ≡ length program.now.words }
+    requires large { size_of layout.now ≤ length (B.start (B.origin board.now)).image }
     requires replayed { IsReplayed program.now (past_of layout.now (B.start (B.origin board.now)) (B.state board.now)) }
-    requires heads { AreHeads layout.now (B.start (B.origin board.now)).image heads }
+    requires from { from ≡ (committed_at (past_of layout.now (B.start (B.origin board.now)) (B.state board.now)) 0).len }
+    requires kept { HasKept layout.now (B.start (B.origin board.now)).image shadow.old }
     requires made { IsMadeFor layout.now shadow.old.slot }
     ensures same_sink { sink_name page.new ≡ sink_name page.old }
-    ensures text { AddsTo K.written page.old page.new (outcome_text program.now.headers program.now.variables arrivals.now (past_of layout.now (B.start (B.origin board.now)) (B.state board.now)) (B.state board.now).tick (B.state board.now).stored end) result }
+    ensures text { AddsTo K.written page.old page.new (outcome_text program.now.headers program.now.variables arrivals.now (past_of layout.now (B.start (B.origin board.now)) (B.state board.now)) from (B.state board.now).tick (B.state board.now).stored end) result }
     ensures made { IsMadeFor layout.now shadow.new.slot }
     ensures cause { HasCause (K.faults (sink_in page.old)) (K.faults (sink_in page.new)) result }
 {
+    let heads = shadow.heads;
     recover(board, layout, &mut shadow.slot);
     add_log(
         page,
@@ -90,6 +96,7 @@ fn add_outcome<B: Board, K: Sink>(
         layout,
         board,
         heads,
+        from,
         shadow.slot.len,
     )?;
     add_end(
@@ -111,24 +118,66 @@ fn add_report<B: Board, K: Sink>(
     layout: &Layout,
     board: &B,
     end: End,
+    from: u32,
     shadow: &mut Shadow,
 ) -> Result<(), WriteFail>
     requires suits { Suits program.now chosen.now }
     requires events { length arrivals.now.timings ≡ length program.now.events }
+    requires words { layout.now.words ≡ length program.now.words }
+    requires large { size_of layout.now ≤ length (B.start (B.origin board.now)).image }
     requires replayed { IsReplayed program.now (past_of layout.now (B.start (B.origin board.now)) (B.state board.now)) }
+    requires from { from ≡ (committed_at (past_of layout.now (B.start (B.origin board.now)) (B.state board.now)) 0).len }
+    requires kept { HasKept layout.now (B.start (B.origin board.now)).image shadow.old }
     requires made { IsMadeFor layout.now shadow.old.slot }
     ensures same_sink { sink_name page.new ≡ sink_name page.old }
-    ensures text { AddsTo K.written page.old page.new (report_text program.now.headers program.now.variables chosen.now arrivals.now (past_of layout.now (B.start (B.origin board.now)) (B.state board.now)) (B.state board.now).tick (B.state board.now).stored end) result }
+    ensures text { AddsTo K.written page.old page.new (resumed_text program.now.headers program.now.variables chosen.now arrivals.now (past_of layout.now (B.start (B.origin board.now)) (B.state board.now)) from (B.state board.now).tick (B.state board.now).stored end) result }
     ensures made { IsMadeFor layout.now shadow.new.slot }
     ensures cause { HasCause (K.faults (sink_in page.old)) (K.faults (sink_in page.new)) result }
 {
     let _sound = board.entries();
     let _checked = program.bodies();
-    let heads = Heads::fresh();
     add_chosen(page, program, chosen)?;
     add_dropped(page, program, arrivals)?;
-    add_story(page, layout, board, heads)?;
-    add_outcome(page, program, arrivals, layout, board, end, heads, shadow)
+    add_story(page, layout, board, shadow.heads)?;
+    add_outcome(page, program, arrivals, layout, board, end, from, shadow)
+}
+
+/// Writes the report of a run that went on from a saved image, or a proper prefix of it where a write fails: the chosen versions and
+/// numbers; the arrivals that were dropped; what happened on the board, in order; the committed outputs and events, each event with the
+/// tick at which it was done, but for those among the first `from` records: they were there before the run, and it doesn't know their
+/// ticks; how it ended; and the committed variables. The board began with that image, whose committed value has `from` records, and
+/// the shadow kept it. It goes to the sink some thousands of bytes at once, and takes no memory. Afterwards the shadow may hold other
+/// slots.
+pub fn write_resumed<B: Board, K: Sink>(
+    program: &Program,
+    chosen: &Chosen,
+    arrivals: &Arrivals,
+    layout: &Layout,
+    board: &B,
+    end: End,
+    from: u32,
+    shadow: &mut Shadow,
+    sink: &mut K,
+) -> Result<(), WriteFail>
+    requires suits { Suits program.now chosen.now }
+    requires events { length arrivals.now.timings ≡ length program.now.events }
+    requires words { layout.now.words ≡ length program.now.words }
+    requires large { size_of layout.now ≤ length (B.start (B.origin board.now)).image }
+    requires replayed { IsReplayed program.now (past_of layout.now (B.start (B.origin board.now)) (B.state board.now)) }
+    requires from { from ≡ (committed_at (past_of layout.now (B.start (B.origin board.now)) (B.state board.now)) 0).len }
+    requires kept { HasKept layout.now (B.start (B.origin board.now)).image shadow.old }
+    requires made { IsMadeFor layout.now shadow.old.slot }
+    ensures text { Writes (K.written sink.old) (K.written sink.new) (resumed_text program.now.headers program.now.variables chosen.now arrivals.now (past_of layout.now (B.start (B.origin board.now)) (B.state board.now)) from (B.state board.now).tick (B.state board.now).stored end) result }
+    ensures made { IsMadeFor layout.now shadow.new.slot }
+    ensures cause { HasCause (K.faults sink.old) (K.faults sink.new) result }
+{
+    let mut page = Page::on(sink);
+    match add_report(
+        &mut page, program, chosen, arrivals, layout, board, end, from, shadow,
+    ) {
+        Ok(()) => page.close(),
+        Err(fail) => Err(fail),
+    }
 }
 
 /// Writes the report of a replay, or a proper prefix of it where a write fails: the chosen versions and numbers; the arrivals that
@@ -147,17 +196,15 @@ pub fn write_report<B: Board, K: Sink>(
 ) -> Result<(), WriteFail>
     requires suits { Suits program.now chosen.now }
     requires events { length arrivals.now.timings ≡ length program.now.events }
+    requires fresh { IsFresh program.now layout.now (B.start (B.origin board.now)).image }
     requires replayed { IsReplayed program.now (past_of layout.now (B.start (B.origin board.now)) (B.state board.now)) }
     requires made { IsMadeFor layout.now shadow.old.slot }
     ensures text { Writes (K.written sink.old) (K.written sink.new) (report_text program.now.headers program.now.variables chosen.now arrivals.now (past_of layout.now (B.start (B.origin board.now)) (B.state board.now)) (B.state board.now).tick (B.state board.now).stored end) result }
     ensures made { IsMadeFor layout.now shadow.new.slot }
     ensures cause { HasCause (K.faults sink.old) (K.faults sink.new) result }
 {
-    let mut page = Page::on(sink);
-    match add_report(
-        &mut page, program, chosen, arrivals, layout, board, end, shadow,
-    ) {
-        Ok(()) => page.close(),
-        Err(fail) => Err(fail),
-    }
+    shadow.heads = Heads::fresh();
+    write_resumed(
+        program, chosen, arrivals, layout, board, end, 0, shadow, sink,
+    )
 }

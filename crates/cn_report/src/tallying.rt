@@ -2,9 +2,11 @@
 
 ghost use Rattle.std.specs.Prelude.{◌≡◌, ◌<◌, ◌≤◌, if◌then◌else◌, count_by, length};
 ghost use Rattle.nv_memory.specs.Board.{IsSound};
+ghost use Rattle.nv_memory.specs.Layout.{size_of};
 ghost use Rattle.nv_log.specs.Record.{IsOf};
 ghost use Rattle.checkpoint_slots.specs.Slot.{IsMadeFor};
-ghost use Rattle.recovery.specs.Past.{past_of, last_slot, entry_in, done_at};
+ghost use Rattle.recovery.specs.First.{IsFresh};
+ghost use Rattle.recovery.specs.Past.{past_of, committed_at, last_slot, entry_in, done_at};
 ghost use Rattle.cn_report.specs.Counts.{is_out, is_ran, is_met, records, outs_in, ran_in, met_in};
 ghost use Rattle.cn_report.specs.Tallied.{tally_of};
 ghost use Rattle.cn_report.specs.Whole.{IsReplayed};
@@ -13,7 +15,7 @@ ghost use Rattle.cn_report.specs.Windows.{AreHeads};
 use crate::counts::Tally;
 use crate::cursor::Cursor;
 use crate::heads::Heads;
-use crate::log::{Recorded, due, record_at};
+use crate::log::{committed_entry, due};
 use crate::resting::last_asleep;
 use crate::shadow::Shadow;
 use cat_program::{LogEntry, Program};
@@ -44,14 +46,14 @@ fn is_out(entry: LogEntry) -> bool
     }
 }
 
-fn is_met(program: &Program, arrivals: &Arrivals, recorded: Recorded) -> bool
+fn is_met(program: &Program, arrivals: &Arrivals, done: u64, entry: LogEntry) -> bool
     requires events { length arrivals.now.timings ≡ length program.now.events }
-    requires entry { IsOf program.now recorded.entry }
-    ensures { result ≡ is_met program.now.headers arrivals.now recorded.done recorded.entry }
+    requires entry { IsOf program.now entry }
+    ensures { result ≡ is_met program.now.headers arrivals.now done entry }
 {
-    match recorded.entry {
+    match entry {
         LogEntry::Out { .. } => false,
-        LogEntry::Ran { event, index, .. } => recorded.done <= due(program, arrivals, event, index),
+        LogEntry::Ran { event, index, .. } => done <= due(program, arrivals, event, index),
     }
 }
 
@@ -71,7 +73,7 @@ fn count_lost<B: Board>(board: &B) -> u32
     lost
 }
 
-// How many committed records are of each kind. The heads are those of the board's first image.
+// How many committed records are of each kind. The heads are those of the board's first image, which has no records.
 fn count_log<B: Board>(
     program: &Program,
     arrivals: &Arrivals,
@@ -82,7 +84,9 @@ fn count_log<B: Board>(
 ) -> Counts
     requires events { length arrivals.now.timings ≡ length program.now.events }
     requires sound { IsSound (B.start (B.origin board.now)) (B.state board.now) }
+    requires large { size_of layout.now ≤ length (B.start (B.origin board.now)).image }
     requires replayed { IsReplayed program.now (past_of layout.now (B.start (B.origin board.now)) (B.state board.now)) }
+    requires none { (committed_at (past_of layout.now (B.start (B.origin board.now)) (B.state board.now)) 0).len ≡ 0 }
     requires heads { AreHeads layout.now (B.start (B.origin board.now)).image heads }
     requires len { len ≡ (last_slot (past_of layout.now (B.start (B.origin board.now)) (B.state board.now))).len }
     ensures ran { result.ran ≡ ran_in (past_of layout.now (B.start (B.origin board.now)) (B.state board.now)) }
@@ -94,17 +98,18 @@ fn count_log<B: Board>(
     let mut met = 0;
     let mut outs = 0;
     for place in 0..len {
-        let recorded = record_at(program, layout, board, &mut cursor, place);
-        let out = is_out(recorded.entry);
+        let entry = committed_entry(program, layout, board, place);
+        let done = cursor.done(layout, board, place);
+        let out = is_out(entry);
         ran += one_if(!out);
-        met += one_if(is_met(program, arrivals, recorded));
+        met += one_if(is_met(program, arrivals, done, entry));
         outs += one_if(out);
     }
     Counts { ran, met, outs }
 }
 
 /// Counts the lines of the report of a replay: the events that ran, those of them that were done in time, the operations that were
-/// lost, the arrivals that were dropped, and the values that were put out. The board is as for the report. Takes no memory.
+/// lost, the arrivals that were dropped, and the values that were put out. The board is as for the report of a replay. Takes no memory.
 /// Afterwards the shadow may hold other slots.
 pub fn tally<B: Board>(
     program: &Program,
@@ -114,6 +119,7 @@ pub fn tally<B: Board>(
     shadow: &mut Shadow,
 ) -> Tally
     requires events { length arrivals.now.timings ≡ length program.now.events }
+    requires fresh { IsFresh program.now layout.now (B.start (B.origin board.now)).image }
     requires replayed { IsReplayed program.now (past_of layout.now (B.start (B.origin board.now)) (B.state board.now)) }
     requires made { IsMadeFor layout.now shadow.old.slot }
     ensures tally { result ≡ tally_of program.now.headers arrivals.now (past_of layout.now (B.start (B.origin board.now)) (B.state board.now)) }

@@ -4,6 +4,8 @@ ghost use Rattle.std.specs.Prelude.{◌≡◌, ◌+◌, ◌≤◌, ◌<◌, ℕ,
 ghost use Rattle.std.specs.Int.{w32, from_le_bytes};
 ghost use Rattle.cn_report.specs.Bytes.{byte_then};
 
+use nv_memory::Board;
+
 /// Eight bytes of an image, from some place on.
 #[derive(Clone, Copy, Debug)]
 pub(crate) struct Window {
@@ -31,6 +33,19 @@ impl Window {
         ensures { result.bytes ≡ replicate 8 0 }
     {
         Window { bytes: [0; 8] }
+    }
+
+    /// The bytes from a place on of the image that a board holds.
+    pub(crate) fn of<B: Board>(board: &B, at: u32) -> Window
+        requires { at + 8 ≤ length (B.state board.now).image }
+        ensures { Shows (B.state board.now).image at result }
+    {
+        let _sound = board.size();
+        let mut bytes = [0; 8];
+        for k in 0..8 {
+            bytes[k] = board.read(at + k as u32);
+        }
+        Window { bytes }
     }
 
     /// Takes over what a write leaves in its range. The window stands at this place.

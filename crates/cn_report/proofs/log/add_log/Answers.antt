@@ -31,10 +31,12 @@ returns-in_err-add_record-clause-text g c =
     let headers = c.args.program.now.headers in
     let lists = c.args.arrivals.now in
     let place = c.loop-place.place in
-    let here = c.record_at-recorded in
+    let entry = c.committed_entry-entry in
+    let known = c.known_at-done in
+    let start = c.args.from in
     let less : place < (last_slot past).len = omega (arith, c.requires.len, c.loop-place-test.true) in
-    let piece = record-is headers lists past place here.result.done here.result.entry here.ensures.done here.ensures.entry in
-    rw p.1 (cut_held_in_turn (record_line headers lists past) place (last_slot past).len _ _ _ _ _ (log_line headers lists here.result.done here.result.entry) less c.loop-place.invariant.text piece c.in_err-add_record.ensures.text)
+    let piece = record-is headers lists past start place known.result entry.result known.ensures.known entry.ensures.entry in
+    rw p.1 (cut_held_in_turn (record_line headers lists past start) place (last_slot past).len _ _ _ _ _ (log_line headers lists known.result entry.result) less c.loop-place.invariant.text piece c.in_err-add_record.ensures.text)
 
 pub loop-place-preserved : goal.loop-place-preserved
 loop-place-preserved g c =
@@ -42,13 +44,15 @@ loop-place-preserved g c =
     let headers = c.args.program.now.headers in
     let lists = c.args.arrivals.now in
     let place = c.loop-place.place in
-    let here = c.record_at-recorded in
-    let piece = record-is headers lists past place here.result.done here.result.entry here.ensures.done here.ensures.entry in
+    let entry = c.committed_entry-entry in
+    let known = c.known_at-done in
+    let start = c.args.from in
+    let piece = record-is headers lists past start place known.result entry.result known.ensures.known entry.ensures.entry in
     record {
       same_sink = c.in_ok-add_record.ensures.same_sink ∙ c.loop-place.invariant.same_sink;
-      passed = here.ensures.passed;
-      before = λ n earlier. omega (arith, here.ensures.before n earlier);
-      text = held_in_turn (record_line headers lists past) place _ _ _ _ _ _ (log_line headers lists here.result.done here.result.entry) c.loop-place.invariant.text piece c.in_ok-add_record.ensures.text;
+      passed = known.ensures.passed;
+      before = λ n earlier. omega (arith, known.ensures.before n earlier);
+      text = held_in_turn (record_line headers lists past start) place _ _ _ _ _ _ (log_line headers lists known.result entry.result) c.loop-place.invariant.text piece c.in_ok-add_record.ensures.text;
       faults = c.in_ok-add_record.ensures.cause.kept ∙ c.loop-place.invariant.faults;
     }
 
@@ -56,5 +60,5 @@ pub returns-clause-text : goal.returns-clause-text
 returns-clause-text g c =
     let past = past_of c.args.layout.now (g.B.Board.start (g.B.Board.origin c.args.board.now)) (g.B.Board.state c.args.board.now) in
     let all : c.loop-place.place ≡ (last_slot past).len = omega (arith, c.loop-place-test.false, c.loop-place.auto.place-end, c.requires.len) in
-    subst (λ (n : ℕ). IsHeld (g.K.Sink.written (sink_in c.args.page.now)) (g.K.Sink.written (sink_in c.loop-place.page)) (held_in c.args.page.now ++ in_turn (record_line c.args.program.now.headers c.args.arrivals.now past) n) (held_in c.loop-place.page))
+    subst (λ (n : ℕ). IsHeld (g.K.Sink.written (sink_in c.args.page.now)) (g.K.Sink.written (sink_in c.loop-place.page)) (held_in c.args.page.now ++ in_turn (record_line c.args.program.now.headers c.args.arrivals.now past c.args.from) n) (held_in c.loop-place.page))
     all c.loop-place.invariant.text

@@ -14,6 +14,6 @@ invariant-loop-place g l =
       same_sink : sink_name l.page ≡ sink_name l.fn.page;
       passed : HasPassed past l.cursor;
       before : IsBefore past l.place l.cursor;
-      text : IsHeld (g.K.Sink.written (sink_in l.fn.page)) (g.K.Sink.written (sink_in l.page)) (held_in l.fn.page ++ in_turn (record_line l.program.headers l.arrivals past) l.place) (held_in l.page);
+      text : IsHeld (g.K.Sink.written (sink_in l.fn.page)) (g.K.Sink.written (sink_in l.page)) (held_in l.fn.page ++ in_turn (record_line l.program.headers l.arrivals past l.from) l.place) (held_in l.page);
       faults : g.K.Sink.faults (sink_in l.page) ≡ g.K.Sink.faults (sink_in l.fn.page);
     }

@@ -15,7 +15,7 @@ use Rattle.cn_report.proofs.report.add_outcome.Goals as goal
 
 pub recover-requires-clause-image : goal.recover-requires-clause-image
 recover-requires-clause-image g c =
-    image-long c.args.program.now c.args.layout.now (g.B.Board.start (g.B.Board.origin c.args.board.now)) (g.B.Board.state c.args.board.now) c.requires.sound c.requires.replayed
+    image-long c.args.layout.now (g.B.Board.start (g.B.Board.origin c.args.board.now)) (g.B.Board.state c.args.board.now) c.requires.sound c.requires.large
 
 pub recover-requires-clause-formed : goal.recover-requires-clause-formed
 recover-requires-clause-formed g c =
@@ -32,7 +32,7 @@ returns-in_err-add_log-clause-text g c =
     let past = past_of c.args.layout.now (g.B.Board.start (g.B.Board.origin c.args.board.now)) (g.B.Board.state c.args.board.now) in
     let state = g.B.Board.state c.args.board.now in
     let program = c.args.program.now in
-    rw p.1 (cut_behind_held _ _ (held_in c.args.page.now) (log_text program.headers c.args.arrivals.now past) (end_line state.tick state.stored (last_slot past).steps c.args.end ++ variables_text (last_slot past) program.variables)
+    rw p.1 (cut_behind_held _ _ (held_in c.args.page.now) (log_text program.headers c.args.arrivals.now past c.args.from) (end_line state.tick state.stored (last_slot past).steps c.args.end ++ variables_text (last_slot past) program.variables)
     c.in_err-add_log.ensures.text)
 
 pub returns-in_err-add_end-clause-text : goal.returns-in_err-add_end-clause-text
@@ -45,8 +45,8 @@ returns-in_err-add_end-clause-text g c =
     let slot = slot-is program c.args.layout.now (g.B.Board.start (g.B.Board.origin c.args.board.now)) state c.requires.sound c.requires.replayed in
     let piece = end-is c.tick.result c.stored.result c.recover.new.into.steps state.tick state.stored (last_slot past).steps c.word.result.now c.args.end
     c.tick.ensures.value c.stored.ensures.value (ap (λ (s : Slot). s.steps) (c.recover.ensures ∙ slot)) c.word.ensures in
-    rw p.1 (adds_cut _ _ _ _ _ (log_text program.headers lists past) (end_line state.tick state.stored (last_slot past).steps c.args.end) (variables_text (last_slot past) program.variables)
-    (outcome_text program.headers program.variables lists past state.tick state.stored c.args.end) refl c.in_ok-add_log.ensures.text
+    rw p.1 (adds_cut _ _ _ _ _ (log_text program.headers lists past c.args.from) (end_line state.tick state.stored (last_slot past).steps c.args.end) (variables_text (last_slot past) program.variables)
+    (outcome_text program.headers program.variables lists past c.args.from state.tick state.stored c.args.end) refl c.in_ok-add_log.ensures.text
     (subst (λ t. IsCut (g.K.Sink.written (sink_in c.add_log.new.page)) (g.K.Sink.written (sink_in c.add_end.new.page)) (held_in c.add_log.new.page ++ t)) piece c.in_err-add_end.ensures.text))
 
 pub returns-clause-text : goal.returns-clause-text
@@ -58,7 +58,7 @@ returns-clause-text g c =
     let slot = slot-is program c.args.layout.now (g.B.Board.start (g.B.Board.origin c.args.board.now)) state c.requires.sound c.requires.replayed in
     let piece = end-is c.tick.result c.stored.result c.recover.new.into.steps state.tick state.stored (last_slot past).steps c.word.result.now c.args.end
     c.tick.ensures.value c.stored.ensures.value (ap (λ (s : Slot). s.steps) (c.recover.ensures ∙ slot)) c.word.ensures in
-    let log : List ℕ = log_text program.headers lists past in
+    let log : List ℕ = log_text program.headers lists past c.args.from in
     let end : List ℕ = end_line state.tick state.stored (last_slot past).steps c.args.end in
     let vars : List ℕ = variables_text (last_slot past) program.variables in
     let first = c.add_log.new.page in
@@ -66,5 +66,5 @@ returns-clause-text g c =
     let last = c.add_variables.new.page in
     let ended = subst (λ t. IsHeld (g.K.Sink.written (sink_in first)) (g.K.Sink.written (sink_in second)) (held_in first ++ t) (held_in second)) piece c.in_ok-add_end.ensures.text in
     let listed = subst (λ (s : Slot). Adds (g.K.Sink.written (sink_in second)) (g.K.Sink.written (sink_in last)) (held_in second) (held_in last) (variables_text s program.variables) c.add_variables.result) (c.recover.ensures ∙ slot) c.add_variables.ensures.text in
-    adds_on _ _ _ _ _ _ (log ++ end) vars (outcome_text program.headers program.variables lists past state.tick state.stored c.args.end) c.add_variables.result
+    adds_on _ _ _ _ _ _ (log ++ end) vars (outcome_text program.headers program.variables lists past c.args.from state.tick state.stored c.args.end) c.add_variables.result
     (append_assoc log end vars) (held_adds _ _ _ _ _ _ log end (log ++ end) refl c.in_ok-add_log.ensures.text ended) listed

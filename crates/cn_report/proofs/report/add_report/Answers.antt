@@ -8,15 +8,9 @@ use Rattle.cn_base.specs.Writing.{IsCut}
 use Rattle.recovery.specs.Past.{past_of}
 use Rattle.cn_report.specs.Report.{choice_text}
 use Rattle.cn_report.specs.Story.{dropped_text, story_text}
-use Rattle.cn_report.specs.Whole.{outcome_text, report_text}
+use Rattle.cn_report.specs.Whole.{outcome_text, resumed_text}
 use Rattle.cn_report.proofs.Texts.{choice-is}
 use Rattle.cn_report.proofs.report.add_report.Goals as goal
-
-pub add_story-requires : goal.add_story-requires
-add_story-requires g c = c.fresh-heads.ensures c.args.program.now c.args.layout.now (g.B.Board.start (g.B.Board.origin c.args.board.now)).image c.requires.replayed.fresh
-
-pub add_outcome-requires-clause-heads : goal.add_outcome-requires-clause-heads
-add_outcome-requires-clause-heads g c = c.fresh-heads.ensures c.args.program.now c.args.layout.now (g.B.Board.start (g.B.Board.origin c.args.board.now)).image c.requires.replayed.fresh
 
 pub returns-in_err-add_chosen-clause-text : goal.returns-in_err-add_chosen-clause-text
 returns-in_err-add_chosen-clause-text g c =
@@ -27,8 +21,8 @@ returns-in_err-add_chosen-clause-text g c =
     let lists = c.args.arrivals.now in
     let choice : List ℕ = choice_text program.headers c.args.chosen.now in
     let dropped : List ℕ = dropped_text program.headers lists.dropped in
-    let outcome : List ℕ = outcome_text program.headers program.variables lists past state.tick state.stored c.args.end in
-    let whole : List ℕ = report_text program.headers program.variables c.args.chosen.now lists past state.tick state.stored c.args.end in
+    let outcome : List ℕ = outcome_text program.headers program.variables lists past c.args.from state.tick state.stored c.args.end in
+    let whole : List ℕ = resumed_text program.headers program.variables c.args.chosen.now lists past c.args.from state.tick state.stored c.args.end in
     let same = choice-is program c.args.chosen.now c.bodies-checked.ensures.checked in
     let page = c.args.page.now in
     let one = c.add_chosen.new.page in
@@ -44,8 +38,8 @@ returns-in_err-add_dropped-clause-text g c =
     let lists = c.args.arrivals.now in
     let choice : List ℕ = choice_text program.headers c.args.chosen.now in
     let dropped : List ℕ = dropped_text program.headers lists.dropped in
-    let outcome : List ℕ = outcome_text program.headers program.variables lists past state.tick state.stored c.args.end in
-    let whole : List ℕ = report_text program.headers program.variables c.args.chosen.now lists past state.tick state.stored c.args.end in
+    let outcome : List ℕ = outcome_text program.headers program.variables lists past c.args.from state.tick state.stored c.args.end in
+    let whole : List ℕ = resumed_text program.headers program.variables c.args.chosen.now lists past c.args.from state.tick state.stored c.args.end in
     let same = choice-is program c.args.chosen.now c.bodies-checked.ensures.checked in
     let page = c.args.page.now in
     let one = c.add_chosen.new.page in
@@ -61,8 +55,8 @@ returns-in_err-add_story-clause-text g c =
     let lists = c.args.arrivals.now in
     let choice : List ℕ = choice_text program.headers c.args.chosen.now in
     let dropped : List ℕ = dropped_text program.headers lists.dropped in
-    let outcome : List ℕ = outcome_text program.headers program.variables lists past state.tick state.stored c.args.end in
-    let whole : List ℕ = report_text program.headers program.variables c.args.chosen.now lists past state.tick state.stored c.args.end in
+    let outcome : List ℕ = outcome_text program.headers program.variables lists past c.args.from state.tick state.stored c.args.end in
+    let whole : List ℕ = resumed_text program.headers program.variables c.args.chosen.now lists past c.args.from state.tick state.stored c.args.end in
     let same = choice-is program c.args.chosen.now c.bodies-checked.ensures.checked in
     let page = c.args.page.now in
     let one = c.add_chosen.new.page in
@@ -78,8 +72,8 @@ returns-clause-text g c =
     let lists = c.args.arrivals.now in
     let choice : List ℕ = choice_text program.headers c.args.chosen.now in
     let dropped : List ℕ = dropped_text program.headers lists.dropped in
-    let outcome : List ℕ = outcome_text program.headers program.variables lists past state.tick state.stored c.args.end in
-    let whole : List ℕ = report_text program.headers program.variables c.args.chosen.now lists past state.tick state.stored c.args.end in
+    let outcome : List ℕ = outcome_text program.headers program.variables lists past c.args.from state.tick state.stored c.args.end in
+    let whole : List ℕ = resumed_text program.headers program.variables c.args.chosen.now lists past c.args.from state.tick state.stored c.args.end in
     let same = choice-is program c.args.chosen.now c.bodies-checked.ensures.checked in
     let page = c.args.page.now in
     let one = c.add_chosen.new.page in

@@ -1,17 +1,12 @@
 use Rattle.std.proofs.Common.{arith}
 use Rattle.recovery.specs.Past.{past_of, entry_in}
 use Rattle.cn_report.proofs.Moments.{sound-last}
-use Rattle.cn_report.proofs.Records.{few, found_is, image-long, none-first, some_is}
-use Rattle.cn_report.proofs.log.record_at.Goals as goal
-
-pub done-done-requires-clause-later : goal.done-done-requires-clause-later
-done-done-requires-clause-later g c =
-    let past = past_of c.args.layout.now (g.B.Board.start (g.B.Board.origin c.args.board.now)) (g.B.Board.state c.args.board.now) in
-    omega (arith, none-first c.args.program.now past c.requires.replayed)
+use Rattle.cn_report.proofs.Records.{few, found_is, image-long, some_is}
+use Rattle.cn_report.proofs.log.committed_entry.Goals as goal
 
 pub entry_at-requires-clause-image : goal.entry_at-requires-clause-image
 entry_at-requires-clause-image g c =
-    image-long c.args.program.now c.args.layout.now (g.B.Board.start (g.B.Board.origin c.args.board.now)) (g.B.Board.state c.args.board.now) c.requires.sound c.requires.replayed
+    image-long c.args.layout.now (g.B.Board.start (g.B.Board.origin c.args.board.now)) (g.B.Board.state c.args.board.now) c.requires.sound c.requires.large
 
 pub entry_at-requires-clause-place : goal.entry_at-requires-clause-place
 entry_at-requires-clause-place g c =
