@@ -1,9 +1,8 @@
-pub mod Following
 pub mod Items
 pub mod Order
 pub mod Recorded
 pub mod Running
 pub mod Staging
-pub mod Stepping
 pub mod Taken
 pub mod Verdict
+pub mod Upto

@@ -16,14 +16,8 @@ use Rattle.cn_resume.specs.declared.fault.ImageKind.TheVariants as kind
 use Rattle.cn_resume.specs.Records.{entries_in}
 use Rattle.cn_resume.specs.Fit.{Purpose, HasSize, HoldsBefore, IsFit, IsRefused, purpose_of, tick_in, image_in, slot_in, logged_in, current_in, moment_in, schedule_in}
 use Rattle.cn_resume.specs.Stages.{IsSlotRead, SlotFault, NotFormed, TooManySteps, NoRest, IsLogRead, LogFault, BadRecord, BadCount, NoRoom, RunFault, NoRun, OtherEnd, NoRoom', said_moment}
+use Rattle.cn_resume.proofs.Running.{current_is}
 use Rattle.cn_resume.proofs.Order.{one_further, all_hold}
-
--- what a place stands for is one
-current_is : (program : Checked) (pc : Option ℕ) (current : Option Body) → RestsAt program pc current → current ≡ option_and_then (rest_at program) pc
-current_is program None None rests = refl
-current_is program (Some pc) (Some k) rests = sym rests
-current_is program None (Some k) rests = absurd rests
-current_is program (Some pc) None rests = absurd rests
 
 module _ (s : Setting) (l : Layout) (cap life : ℕ) (file : List ℕ) where
   abbrev P : Purpose

@@ -6,9 +6,9 @@ mod fault;
 mod head;
 mod laws;
 mod records;
-mod rerun;
 mod saved;
 mod saving;
+mod schedules;
 
 pub use accepting::accept;
 pub use fault::{ImageFault, ImageKind};
