@@ -60,6 +60,9 @@ module _ (s : Setting) (slot : Slot) (entries : List LogEntry) (current : Option
   pub other_state : (end : Moment) → IsReference s Told end → end.entries ≡ entries → end.state ≢ Said.state → RunFault s Told Said (BadImage kind.State (length entries))
   other_state end is es differ = OtherEnd (length entries) end is (inr (es, (differ, refl)))
 
+abbrev state_with : List ℤ → List ℕ → Option Body → TaskState
+state_with words posts list = record { store = record { words = words; posts = posts }; current = list }
+
 -- a state is the one that the slot tells where words, posts and list are
 module _ (slot : Slot) (current : Option Body) (s : TaskState) where
   pub state_is : s.store.words ≡ variables_of slot → s.store.posts ≡ slot.posts → s.current ≡ current → s ≡ said_state slot current
@@ -67,9 +70,6 @@ module _ (slot : Slot) (current : Option Body) (s : TaskState) where
       ap (λ (w : List ℤ). state_with w s.store.posts s.current) words
       ∙ ap (λ (q : List ℕ). state_with (variables_of slot) q s.current) posts
       ∙ ap (λ (k : Option Body). state_with (variables_of slot) slot.posts k) list
-    where
-      abbrev state_with : List ℤ → List ℕ → Option Body → TaskState
-      state_with words posts list = record { store = record { words = words; posts = posts }; current = list }
 
   pub list_told : (p : Checked) → RestsAt p slot.pc current → RestsAt p slot.pc s.current → s.current ≡ current
   list_told p rests own = current_is p slot.pc s.current own ∙ sym (current_is p slot.pc current rests)
