@@ -12,7 +12,7 @@ mod schedules;
 
 pub use accepting::accept;
 pub use fault::{ImageFault, ImageKind};
-pub use laws::one_verdict;
+pub use laws::{fit_files_are_accepted, one_verdict};
 pub use saved::Saved;
 pub use saving::write_saved;
 

@@ -7,9 +7,4 @@ use Rattle.cn_resume.proofs.schedules.items_of.Goals as goal
 
 pub loop-entry-preserved : goal.loop-entry-preserved
 loop-entry-preserved c =
-    let es = c.args.entries.now in
-    let k = c.loop-entry.entry-index in
-    let e = c.entry-item.result in
-    let item = slice_get-get_or es k e c.loop-entry-test.true ∙ ap Some (sym c.entry-item.is) in
-    let rest = items_in (drop (k + 1) es) in
-    ap (λ (l : List Item). l ++ rest) c.in_ok-add.ensures ∙ append_assoc c.loop-entry.items.items (items_in (e ∷ [])) rest ∙ ap (λ (l : List Item). c.loop-entry.items.items ++ l) (sym (items_next es k e item)) ∙ c.loop-entry.invariant
+    let h = c.loop-entry in ?
