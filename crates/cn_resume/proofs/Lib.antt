@@ -1,4 +1,5 @@
 pub mod Items
+pub mod Looking
 pub mod Order
 pub mod Recorded
 pub mod Running

@@ -7,16 +7,18 @@ use Rattle.cat_program.specs.Body.{Body}
 use Rattle.cat_program.specs.Meaning.{TaskState}
 use Rattle.cat_program.specs.Checked.{Checked, body_at, rest_at}
 use Rattle.cat_program.specs.Resting.{RestsAt}
+use Rattle.cat_eval.specs.Cursor.{state_of}
+use Rattle.cat_eval.specs.StateValue.{StateValue}
 use Rattle.checkpoint_slots.specs.declared.slot.Slot.{Slot}
 use Rattle.checkpoint_slots.specs.Slot.{variables_of}
 use Rattle.reference_run.specs.declared.schedule.Item.{Item}
 use Rattle.reference_run.specs.declared.schedule.Schedule.{Schedule}
-use Rattle.reference_run.specs.Reference.{Setting, Moment, IsReference}
+use Rattle.reference_run.specs.Reference.{Setting, Moment, IsReference, IsEnd, HasFault}
 use Rattle.logged_runs.specs.Own.{items_in, schedule_of}
 use Rattle.cn_resume.specs.declared.fault.ImageFault.TheVariants.{BadImage}
 use Rattle.cn_resume.specs.declared.fault.ImageKind.TheVariants as kind
 use Rattle.cn_resume.specs.Fit.{PartsAt}
-use Rattle.cn_resume.specs.Stages.{RunFault, OtherEnd, said_moment, said_state}
+use Rattle.cn_resume.specs.Stages.{RunFault, NoRun, OtherEnd, said_moment, said_state}
 use Rattle.cn_resume.proofs.Upto.{steps_upto}
 
 -- what a place stands for is one
@@ -47,18 +49,36 @@ module _ (s : Setting) (slot : Slot) (entries : List LogEntry) (current : Option
   Told = schedule_of entries slot.steps
 
   -- it ends as the slot says
-  pub run_is : (end : Moment) → IsReference s Told end → end.entries ≡ entries → end.state ≡ Said.state → IsReference s Told Said
+  run_is : (end : Moment) → IsReference s Told end → end.entries ≡ entries → end.state ≡ Said.state → IsReference s Told Said
   run_is end is es state =
       let steps : end.steps ≡ slot.steps = steps_upto (body_at s.program) slot.steps is.begun end is.total in
       subst (IsReference s Told) (moment_same end.state Said.state end.steps slot.steps end.entries entries state steps es) is
 
   -- it ends with other entries
-  pub other_entries : (end : Moment) (at : ℕ) → IsReference s Told end → PartsAt end.entries entries at → RunFault s Told Said (BadImage kind.State at)
+  other_entries : (end : Moment) (at : ℕ) → IsReference s Told end → PartsAt end.entries entries at → RunFault s Told Said (BadImage kind.State at)
   other_entries end at is parts = OtherEnd at end is (inl parts)
 
   -- it ends in another state
-  pub other_state : (end : Moment) → IsReference s Told end → end.entries ≡ entries → end.state ≢ Said.state → RunFault s Told Said (BadImage kind.State (length entries))
-  other_state end is es differ = OtherEnd (length entries) end is (inr (es, (differ, refl)))
+  other_state : (end : Moment) → IsReference s Told end → end.entries ≡ entries → end.state ≢ Said.state → RunFault s Told Said (BadImage kind.State (length entries))
+  other_state end is es differ = OtherEnd (length entries) end is (inr (es, differ, refl))
+
+  -- what was found out about it
+  module _ (schedule : Schedule) (told : schedule ≡ Told) where
+    pub no_run : (at : ℕ) → HasFault s schedule at → RunFault s Told Said (BadImage kind.Schedule at)
+    no_run at bad = NoRun at (subst (λ (x : Schedule). HasFault s x at) told bad)
+
+    module _ (state : StateValue) (es : List LogEntry) (is : IsEnd s schedule state es) where
+      run : IsReference s Told is.end
+      run = subst (λ (x : Schedule). IsReference s x is.end) told is.run
+
+      pub entries_differ : (at : ℕ) → PartsAt es entries at → RunFault s Told Said (BadImage kind.State at)
+      entries_differ at parts = other_entries is.end at run (subst (λ (l : List LogEntry). PartsAt l entries at) is.entries_are parts)
+
+      pub ends_so : es ≡ entries → state_of s.program state ≡ said_state slot current → IsReference s Told Said
+      ends_so same alike = run_is is.end run (sym is.entries_are ∙ same) (sym is.state_is ∙ alike)
+
+      pub state_differs : es ≡ entries → state_of s.program state ≢ said_state slot current → RunFault s Told Said (BadImage kind.State (length entries))
+      state_differs same differ = other_state is.end run (sym is.entries_are ∙ same) (λ alike. differ (is.state_is ∙ alike))
 
 abbrev state_with : List ℤ → List ℕ → Option Body → TaskState
 state_with words posts list = record { store = record { words = words; posts = posts }; current = list }

@@ -17,11 +17,11 @@ to_late bodies n m late = let fails : nat_le m.steps n ≡ false = grind (arith,
 steps_from : (bodies : ℕ → Body) (n : ℕ) (m end : Moment) → advance bodies n m ≡ Some end → end.steps ≡ m.steps + n
 unfolding advance
 steps_from bodies zero m end e = let same : m ≡ end = cc in ap (λ (x : Moment). x.steps) (sym same) ∙ omega arith
-steps_from bodies (suc n) m end e = go (task_step_of bodies m.state) e
+steps_from bodies (suc n) m end e = go (λ (r : TaskStep) is. steps_from bodies n (after_step m r) end is) (task_step_of bodies m.state) e
   where
-    go : (found : Option TaskStep) → option_and_then (advance bodies n) (option_map (after_step m) found) ≡ Some end → end.steps ≡ m.steps + suc n
-    go None is = cc
-    go (Some r) is = steps_from bodies n (after_step m r) end is ∙ omega arith
+    go : ((r : TaskStep) → advance bodies n (after_step m r) ≡ Some end → end.steps ≡ m.steps + 1 + n) → (found : Option TaskStep) → option_and_then (advance bodies n) (option_map (after_step m) found) ≡ Some end → end.steps ≡ m.steps + suc n
+    go from None is = cc
+    go from (Some r) is = from r is ∙ omega arith
 
 -- after steps up to a number, so many have been taken
 pub steps_upto : (bodies : ℕ → Body) (n : ℕ) (m end : Moment) → advance_to bodies n m ≡ Some end → end.steps ≡ n

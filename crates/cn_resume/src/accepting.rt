@@ -229,6 +229,33 @@ fn check_image(
     )
 }
 
+fn layout_for(program: &Program, device: &Device) -> Layout
+    ensures { IsLayoutOf program.now device.now result }
+{
+    let _checked = program.bodies();
+    Layout {
+        words: program.words(),
+        tasks: program.tasks(),
+        events: program.events(),
+        log: device.log,
+    }
+}
+
+/// What is saved in a file.
+fn taken(alloc: Global, file: &[u8]) -> Result<Saved, NoMemory>
+    requires { 16 ≤ length file.now }
+    ensures { IfOk result (IsTaken file.now) }
+{
+    let Ok(image) = file[16..].to_vec(alloc) else {
+        return Err(NoMemory);
+    };
+    Ok(Saved {
+        tick: number(file, 1),
+        stored: number(file, 2),
+        image,
+    })
+}
+
 /// What is saved in a file from which a device can go on with a program, in these versions of its events, on these arrivals, in a
 /// life of so many ticks (at most 1,000,000). `docs/MEMORY.md` tells the conditions on the file.
 ///
@@ -253,13 +280,7 @@ pub fn accept(
         → IfErr result (IsRefused (purpose_of (setting_of program.now versions.now arrivals.now) l device.now.cap life) bytes.now) }
 {
     layouts_are_numbers();
-    let _checked = program.bodies();
-    let layout = Layout {
-        words: program.words(),
-        tasks: program.tasks(),
-        events: program.events(),
-        log: device.log,
-    };
+    let layout = layout_for(program, device);
     match check_head(&layout, device.cap, life, bytes) {
         Ok(()) => {}
         Err(fault) => return Err(fault),
@@ -270,12 +291,8 @@ pub fn accept(
         Ok(()) => {}
         Err(fault) => return Err(fault),
     }
-    let Ok(image) = bytes[16..].to_vec(alloc) else {
+    let Ok(saved) = taken(alloc, bytes) else {
         return Err(ImageFault::NoMemory);
     };
-    Ok(Saved {
-        tick: number(bytes, 1),
-        stored: number(bytes, 2),
-        image,
-    })
+    Ok(saved)
 }

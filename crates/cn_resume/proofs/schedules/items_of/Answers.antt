@@ -7,4 +7,11 @@ use Rattle.cn_resume.proofs.schedules.items_of.Goals as goal
 
 pub loop-entry-preserved : goal.loop-entry-preserved
 loop-entry-preserved c =
-    let h = c.loop-entry in ?
+    let es = c.args.entries.now in
+    let k = c.loop-entry.entry-index in
+    let item = slice_get-get_or es k _ c.loop-entry-test.true in
+    let rest = items_in (drop (k + 1) es) in
+    ap (λ (l : List Item). l ++ rest) (c.in_ok-add.ensures {u = tt})
+    ∙ append_assoc c.loop-entry.items.items _ rest
+    ∙ ap (λ (l : List Item). c.loop-entry.items.items ++ l) (sym (items_next es k _ item))
+    ∙ c.loop-entry.invariant
