@@ -1,9 +1,9 @@
-pub mod Following
 pub mod Items
+pub mod Looking
 pub mod Order
 pub mod Recorded
 pub mod Running
 pub mod Staging
-pub mod Stepping
 pub mod Taken
 pub mod Verdict
+pub mod Upto

@@ -1,25 +1,19 @@
 -- The conditions in their order.
-use Rattle.std.proofs.Common.{◌≡◌, ℕ, ◌+◌, ◌<◌, List, inl, inr, refl, sym, ap, ◌∙◌, subst, arith}
+use Rattle.std.proofs.Common.{◌≡◌, ℕ, ◌+◌, ◌<◌, List, [], ◌∷◌, get_or, inl, inr, refl, sym, ap, ◌∙◌, subst, arith}
 use Rattle.std.proofs.lemmas.Bool.{cases_lt}
 use Rattle.cn_resume.specs.declared.fault.ImageKind.{ImageKind}
 use Rattle.cn_resume.specs.declared.fault.ImageKind.TheVariants as kind
 use Rattle.cn_resume.specs.Fit.{Purpose, Holds, HoldsBefore, IsFit, rank}
 
--- the kind of a rank
-abbrev pub kind_of : ℕ → ImageKind
-kind_of 0 = kind.Head
-kind_of 1 = kind.Size
-kind_of 2 = kind.Tick
-kind_of 3 = kind.Stored
-kind_of 4 = kind.Slot
-kind_of 5 = kind.Steps
-kind_of 6 = kind.Place
-kind_of 7 = kind.Record
-kind_of 8 = kind.Done
-kind_of 9 = kind.Schedule
-kind_of _ = kind.State
+-- the kinds in their order
+abbrev kinds : List ImageKind
+kinds = kind.Head ∷ kind.Size ∷ kind.Tick ∷ kind.Stored ∷ kind.Slot ∷ kind.Steps ∷ kind.Place ∷ kind.Record ∷ kind.Done ∷ kind.Schedule ∷ []
 
-pub kind_again : (k : ImageKind) → kind_of (rank k) ≡ k
+-- the kind of a rank
+abbrev kind_of : ℕ → ImageKind
+kind_of n = get_or kinds n kind.State
+
+kind_again : (k : ImageKind) → kind_of (rank k) ≡ k
 kind_again kind.Head = refl
 kind_again kind.Size = refl
 kind_again kind.Tick = refl

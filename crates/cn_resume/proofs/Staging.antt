@@ -1,29 +1,65 @@
 -- What is found out about an image decides its conditions one after the other.
-use Rattle.std.proofs.Common.{◌≡◌, ◌≤◌, ◌<◌, ℕ, List, length, length-drop, Option, Some, None, refl, sym, ap, ◌∙◌, subst, arith}
+use Rattle.std.proofs.Common.{◌≡◌, ◌≤◌, ◌<◌, ◌+◌, ℕ, List, length, length-drop, Option, Some, None, Result, Ok, Err, refl, sym, ap, ◌∙◌, subst, arith}
+use Rattle.std.specs.Prelude.{IfErr, OnOk}
 use Rattle.std.specs.Option.{option_and_then}
+use Rattle.std.proofs.lemmas.List.FromFn.{length-map-range_with_len}
 use Rattle.cat_program.specs.declared.outs.LogEntry.{LogEntry}
 use Rattle.cat_program.specs.Body.{Body}
 use Rattle.cat_program.specs.Checked.{Checked, rest_at}
 use Rattle.cat_program.specs.Resting.{RestsAt}
 use Rattle.nv_memory.specs.declared.layout.Layout.{Layout}
+use Rattle.nv_memory.specs.declared.device.Device.{Device}
+use Rattle.nv_memory.specs.Laws.{LayoutsAreNumbers}
 use Rattle.nv_memory.specs.Layout.{size_of}
+use Rattle.degradation.specs.Placed.{IsLayoutOf}
 use Rattle.checkpoint_slots.specs.declared.slot.Slot.{Slot}
+use Rattle.checkpoint_slots.specs.Image.{committed_bytes, committed_slot, IsWellFormed}
+use Rattle.checkpoint_slots.specs.Numbers.{number_at}
+use Rattle.checkpoint_slots.specs.Slot.{IsMadeFor}
 use Rattle.reference_run.specs.Reference.{Setting, IsReference}
 use Rattle.logged_runs.specs.Own.{schedule_of}
 use Rattle.cn_resume.specs.declared.fault.ImageFault.{ImageFault}
 use Rattle.cn_resume.specs.declared.fault.ImageFault.TheVariants.{BadImage, NoMemory}
 use Rattle.cn_resume.specs.declared.fault.ImageKind.TheVariants as kind
-use Rattle.cn_resume.specs.Records.{entries_in}
+use Rattle.cn_resume.specs.Records.{entries_in, entry_in}
 use Rattle.cn_resume.specs.Fit.{Purpose, HasSize, HoldsBefore, IsFit, IsRefused, purpose_of, tick_in, image_in, slot_in, logged_in, current_in, moment_in, schedule_in}
 use Rattle.cn_resume.specs.Stages.{IsSlotRead, SlotFault, NotFormed, TooManySteps, NoRest, IsLogRead, LogFault, BadRecord, BadCount, NoRoom, RunFault, NoRun, OtherEnd, NoRoom', said_moment}
+use Rattle.cn_resume.proofs.Running.{current_is}
 use Rattle.cn_resume.proofs.Order.{one_further, all_hold}
 
--- what a place stands for is one
-current_is : (program : Checked) (pc : Option ℕ) (current : Option Body) → RestsAt program pc current → current ≡ option_and_then (rest_at program) pc
-current_is program None None rests = refl
-current_is program (Some pc) (Some k) rests = sym rests
-current_is program None (Some k) rests = absurd rests
-current_is program (Some pc) None rests = absurd rests
+-- an image has less than 2 ^ 32 bytes
+pub size_few : (l : Layout) → size_of l < 4294967280
+size_few l = omega (arith, l.words_in_range, l.tasks_in_range, l.events_in_range, l.log_in_range)
+
+-- a program has one layout on a device
+pub one_layout : LayoutsAreNumbers → (p : Checked) (d : Device) (a b : Layout) → IsLayoutOf p d a → IsLayoutOf p d b → a ≡ b
+one_layout law p d a b one other = law a b (one.words ∙ sym other.words) (one.tasks ∙ sym other.tasks) (one.events ∙ sym other.events) (one.log ∙ sym other.log)
+
+-- what holds of a tick and an image holds of a file's where they are the same
+pub told_of : (T : ℕ → List ℕ → Type 0) (tick : ℕ) (image file : List ℕ) → tick ≡ tick_in file → image ≡ image_in file → T tick image → T (tick_in file) (image_in file)
+told_of T tick image file first second h = subst (T (tick_in file)) second (subst (λ (n : ℕ). T n image) first h)
+
+-- the slot that is read has the layout's shape
+module _ (l : Layout) (image : List ℕ) (slot : Slot) (is : slot ≡ committed_slot l image) where
+  pub slot_made : IsMadeFor l slot
+  slot_made = subst (IsMadeFor l) (sym is)
+      (let bytes = committed_bytes l image in
+      record { words = length-map-range_with_len (number_at bytes) 3 l.words; tasks = length-map-range_with_len (number_at bytes) (3 + l.words) l.tasks; events = length-map-range_with_len (number_at bytes) (3 + l.words + l.tasks) l.events })
+
+  pub logged_few : (entries : List LogEntry) → IsWellFormed l (committed_bytes l image) → entries ≡ entries_in l image slot.len → length entries ≤ 1000000
+  logged_few entries formed are =
+      let many = ap length are ∙ length-map-range_with_len (entry_in l image) 0 slot.len in
+      let len = ap (λ (x : Slot). x.len) is in
+      omega (arith, many, len, formed.len_fits, l.log_in_range)
+
+-- what follows in a case
+pub on_ok : {E : Type 0} (told : Result (Unit {0}) E) (P Q : Type 0) → (P → Q) → OnOk told P → OnOk told Q
+on_ok (Ok done) P Q f p = f p
+on_ok (Err e) P Q f p = tt
+
+pub if_err : {E : Type 0} (told : Result (Unit {0}) E) (P Q : E → Type 0) → ((e : E) → P e → Q e) → IfErr told P → IfErr told Q
+if_err (Ok done) P Q f p = tt
+if_err (Err e) P Q f p = f e p
 
 module _ (s : Setting) (l : Layout) (cap life : ℕ) (file : List ℕ) where
   abbrev P : Purpose
@@ -40,10 +76,10 @@ module _ (s : Setting) (l : Layout) (cap life : ℕ) (file : List ℕ) where
   image_length before = let whole = (sized before).size in let cut = length-drop 16 file in omega (arith, whole, cut)
 
   pub slot_refused : (fault : ImageFault) → HoldsBefore P file kind.Slot → SlotFault l s.program (tick_in file) (image_in file) fault → IsRefused P file fault
-  slot_refused fault before (NotFormed no) = record { earlier = before; fails = (no, refl) }
+  slot_refused fault before (NotFormed never) = record { earlier = before; fails = (never, refl) }
   slot_refused fault before (TooManySteps formed lt) = record { earlier = one_further P file kind.Slot kind.Steps refl before formed; fails = ((λ le. absurd (omega (arith, le, lt))), refl) }
-  slot_refused fault before (NoRest pc formed le is no) =
-      record { earlier = one_further P file kind.Steps kind.Place refl (one_further P file kind.Slot kind.Steps refl before formed) le; fails = (no, is) }
+  slot_refused fault before (NoRest pc formed le is never) =
+      record { earlier = one_further P file kind.Steps kind.Place refl (one_further P file kind.Slot kind.Steps refl before formed) le; fails = (never, is) }
 
   module _ (slot : Slot) (read : IsSlotRead l s.program (tick_in file) (image_in file) slot) where
     pub after_slot : HoldsBefore P file kind.Slot → HoldsBefore P file kind.Record
@@ -85,8 +121,8 @@ module _ (s : Setting) (l : Layout) (cap life : ℕ) (file : List ℕ) where
           go fault (subst (λ x. RunFault s (schedule_in P file) x fault) (said_is current rests) here)
         where
           go : (f : ImageFault) → RunFault s (schedule_in P file) (moment_in P file) f → IsRefused P file f
-          go f (NoRun at no) = record { earlier = before; fails = no }
-          go f (OtherEnd at end is other) = record { earlier = one_further P file kind.Schedule kind.State refl before (end, is); fails = (end, (is, other)) }
+          go f (NoRun at bad) = record { earlier = before; fails = bad }
+          go f (OtherEnd at end is other) = record { earlier = one_further P file kind.Schedule kind.State refl before (end, is); fails = (end, is, other) }
           go f NoRoom' = tt
 
       pub fits : (current : Option Body) → RestsAt s.program slot.pc current → HoldsBefore P file kind.Schedule → IsReference s (schedule_of entries slot.steps) (said_moment slot entries current) → IsFit P file

@@ -2,6 +2,7 @@
 use Rattle.std.specs.Prelude.{◌≡◌, ◌≤◌, ◌<◌, ℕ, List, Option, Some}
 use Rattle.cat_program.specs.declared.outs.LogEntry.{LogEntry}
 use Rattle.cat_program.specs.Body.{Body}
+use Rattle.cat_program.specs.Meaning.{TaskState}
 use Rattle.cat_program.specs.Checked.{Checked}
 use Rattle.cat_program.specs.Resting.{RestsAt}
 use Rattle.nv_memory.specs.declared.layout.Layout.{Layout}
@@ -50,10 +51,12 @@ pub data LogFault (l : Layout) (program : Checked) (tick : ℕ) (image : List �
   BadCount : (at : ℕ) → EachBelow (IsRecord l program tick image) slot.len → IsFirstWithout (IsCounted slot.done (entries_in l image slot.len)) l.events at → LogFault l program tick image slot (BadImage kinds.Done at)
   NoRoom : LogFault l program tick image slot NoMemory
 
--- the moment that a slot and its entries tell, where this list is current
+-- the state that a slot tells, where this list is current, and with its entries the moment
+abbrev pub said_state : Slot → Option Body → TaskState
+said_state slot current = record { store = record { words = variables_of slot; posts = slot.posts }; current = current }
+
 abbrev pub said_moment : Slot → List LogEntry → Option Body → Moment
-said_moment slot entries current =
-    record { state = record { store = record { words = variables_of slot; posts = slot.posts }; current = current }; steps = slot.steps; entries = entries }
+said_moment slot entries current = record { state = said_state slot current; steps = slot.steps; entries = entries }
 
 pub data RunFault (s : Setting) (schedule : Schedule) (said : Moment) : ImageFault → Type 0 where
   NoRun : (at : ℕ) → HasFault s schedule at → RunFault s schedule said (BadImage kinds.Schedule at)

@@ -2,14 +2,10 @@
 
 ghost use Rattle.std.specs.Prelude.{◌≡◌, ◌≤◌, ◌<◌, ◌↔◌, IsTrue, List, Option, length, IfOk, IfErr, OnOk};
 ghost use Rattle.cn_base.specs.declared.TheConstants.{MOST_TICKS};
-ghost use Rattle.cat_program.specs.declared.outs.LogEntry.{LogEntry as Entry};
 ghost use Rattle.cat_program.specs.Body.{Body};
-ghost use Rattle.cat_program.specs.Checked.{program_marks};
-ghost use Rattle.cat_program.specs.Meaning.{TaskState};
 ghost use Rattle.cat_program.specs.Resting.{RestsAt};
-ghost use Rattle.cat_machine.specs.Code.{code_of};
-ghost use Rattle.cat_machine.specs.Fits.{Corresponds};
-ghost use Rattle.nv_memory.specs.AnyBoardState.{state_of};
+ghost use Rattle.cat_eval.specs.Cursor.{Fits, state_of};
+ghost use Rattle.nv_memory.specs.AnyBoardState as any;
 ghost use Rattle.nv_memory.specs.Layout.{size_of};
 ghost use Rattle.nv_memory.specs.declared.layout.Layout.{Layout as Places};
 ghost use Rattle.checkpoint_slots.specs.Slot.{IsMadeFor, variables_of};
@@ -18,15 +14,14 @@ ghost use Rattle.reference_run.specs.Reference.{AreFor, IsReference, setting_of}
 ghost use Rattle.logged_runs.specs.Own as own;
 ghost use Rattle.cn_resume.specs.declared.fault.ImageKind.TheVariants as kind;
 ghost use Rattle.cn_resume.specs.Fit.{HoldsBefore, IsFit, IsRefused, IsTaken, image_in, purpose_of};
-ghost use Rattle.cn_resume.specs.Stages.{HasRest, IsLogRead, IsNoRest, IsSlotRead, LogFault, RunFault, SlotFault, said_moment};
+ghost use Rattle.cn_resume.specs.Stages.{HasRest, IsLogRead, IsNoRest, IsSlotRead, LogFault, RunFault, SlotFault, said_moment, said_state};
 
 use crate::fault::{ImageFault, ImageKind};
 use crate::head::{check_head, number};
-use crate::places::{has_rest, same_rest};
 use crate::records::{difference, entries_of, miscounted};
-use crate::rerun::{after, schedule_of};
 use crate::saved::Saved;
-use cat_machine::{Code, Working};
+use crate::schedules::schedule_of;
+use cat_eval::{State, has_rest};
 use cat_program::{LogEntry, Program};
 use checkpoint_slots::{Slot, load, selected, well_formed};
 use cn_base::NoMemory;
@@ -39,7 +34,7 @@ use std::alloc::Global;
 fn holding(alloc: Global, device: &Device, file: &[u8]) -> Result<AnyBoard, NoMemory>
     requires head { 16 ≤ length file.now }
     requires size { length file.now < 4294967296 }
-    ensures { IfOk result (λ board. (state_of board).image ≡ image_in file.now) }
+    ensures { IfOk result (λ board. (any.state_of board).image ≡ image_in file.now) }
 {
     let Ok(image) = file[16..].to_vec(alloc) else {
         return Err(NoMemory);
@@ -113,55 +108,54 @@ fn check_log<B: Board>(
     }
 }
 
-fn same_words(working: &Working, slot: &Slot, words: u16) -> bool
-    requires working { words ≡ length working.now.words }
+fn same_words(state: &State, slot: &Slot, words: u16) -> bool
+    requires state { words ≡ length state.now.words }
     requires slot { words ≡ length slot.now.words }
-    ensures { IsTrue result ↔ (working.now.words ≡ variables_of slot.now) }
+    ensures { IsTrue result ↔ (state.now.words ≡ variables_of slot.now) }
 {
     for w in 0..words {
-        if working.word(w) != slot.word(w) {
+        if state.word(w) != slot.word(w) {
             return false;
         }
     }
     true
 }
 
-fn same_posts(working: &Working, slot: &Slot, tasks: u8) -> bool
-    requires working { tasks ≡ length working.now.posts }
+fn same_posts(state: &State, slot: &Slot, tasks: u8) -> bool
+    requires state { tasks ≡ length state.now.posts }
     requires slot { tasks ≡ length slot.now.posts }
-    ensures { IsTrue result ↔ (working.now.posts ≡ slot.now.posts) }
+    ensures { IsTrue result ↔ (state.now.posts ≡ slot.now.posts) }
 {
     for t in 0..tasks {
-        if working.post(t) != slot.post(t) {
+        if state.post(t) != slot.post(t) {
             return false;
         }
     }
     true
 }
 
-/// Whether the machine stands in the state that a slot tells.
-fn same_state(program: &Program, working: &Working, slot: &Slot) -> bool
-    requires words { (length working.now.words ≡ length program.now.words) × (length slot.now.words ≡ length program.now.words) }
-    requires posts { (length working.now.posts ≡ length program.now.tasks) × (length slot.now.posts ≡ length program.now.tasks) }
-    ensures { (s : TaskState) (entries : List Entry) (current : Option Body) → Corresponds (program_marks program.now) working.now s → RestsAt program.now slot.now.pc current
-        → (IsTrue result ↔ (s ≡ (said_moment slot.now entries current).state)) }
+/// Whether a state is the one that a slot tells.
+fn same_state(program: &Program, state: &State, slot: &Slot) -> bool
+    requires fits { Fits program.now state.now }
+    requires words { length slot.now.words ≡ length program.now.words }
+    requires posts { length slot.now.posts ≡ length program.now.tasks }
+    ensures { (current : Option Body) → RestsAt program.now slot.now.pc current
+        → (IsTrue result ↔ (state_of program.now state.now ≡ said_state slot.now current)) }
 {
-    same_words(working, slot, program.words())
-        && same_posts(working, slot, program.tasks())
-        && same_rest(program, working.pc(), slot.pc)
+    same_words(state, slot, program.words())
+        && same_posts(state, slot, program.tasks())
+        && state.stands_at(program, slot.pc)
 }
 
 /// The conditions on the run of what was logged.
 fn check_run(
     alloc: Global,
     program: &Program,
-    code: &Code,
     versions: &[u8],
     arrivals: &Arrivals,
     slot: &Slot,
     entries: &[LogEntry],
 ) -> Result<(), ImageFault>
-    requires code { code.now ≡ code_of program.now }
     requires belong { AreFor (setting_of program.now versions.now arrivals.now) }
     requires words { length slot.now.words ≡ length program.now.words }
     requires posts { length slot.now.posts ≡ length program.now.tasks }
@@ -185,10 +179,7 @@ fn check_run(
     if let Some(at) = difference(end.outs.entries(), entries) {
         return Err(ImageFault::BadImage(ImageKind::State, at as u64));
     }
-    let Ok(working) = after(alloc, program, code, versions, arrivals, &schedule) else {
-        return Err(ImageFault::NoMemory);
-    };
-    if same_state(program, &working, slot) {
+    if same_state(program, &end.state, slot) {
         Ok(())
     } else {
         Err(ImageFault::BadImage(ImageKind::State, entries.len() as u64))
@@ -199,7 +190,6 @@ fn check_run(
 fn check_image(
     alloc: Global,
     program: &Program,
-    code: &Code,
     versions: &[u8],
     arrivals: &Arrivals,
     device: &Device,
@@ -207,7 +197,6 @@ fn check_image(
     life: u32,
     file: &[u8],
 ) -> Result<(), ImageFault>
-    requires code { code.now ≡ code_of program.now }
     requires belong { AreFor (setting_of program.now versions.now arrivals.now) }
     requires layout { IsLayoutOf program.now device.now layout.now }
     requires life { life ≤ MOST_TICKS }
@@ -233,7 +222,6 @@ fn check_image(
     check_run(
         alloc,
         program,
-        code,
         versions,
         arrivals,
         &slot,
@@ -241,8 +229,35 @@ fn check_image(
     )
 }
 
+fn layout_for(program: &Program, device: &Device) -> Layout
+    ensures { IsLayoutOf program.now device.now result }
+{
+    let _checked = program.bodies();
+    Layout {
+        words: program.words(),
+        tasks: program.tasks(),
+        events: program.events(),
+        log: device.log,
+    }
+}
+
+/// What is saved in a file.
+fn taken(alloc: Global, file: &[u8]) -> Result<Saved, NoMemory>
+    requires { 16 ≤ length file.now }
+    ensures { IfOk result (IsTaken file.now) }
+{
+    let Ok(image) = file[16..].to_vec(alloc) else {
+        return Err(NoMemory);
+    };
+    Ok(Saved {
+        tick: number(file, 1),
+        stored: number(file, 2),
+        image,
+    })
+}
+
 /// What is saved in a file from which a device can go on with a program, in these versions of its events, on these arrivals, in a
-/// life of so many ticks (at most 1,000,000). The code is the program's. `docs/MEMORY.md` tells the conditions on the file.
+/// life of so many ticks (at most 1,000,000). `docs/MEMORY.md` tells the conditions on the file.
 ///
 /// # Errors
 ///
@@ -250,14 +265,12 @@ fn check_image(
 pub fn accept(
     alloc: Global,
     program: &Program,
-    code: &Code,
     versions: &[u8],
     arrivals: &Arrivals,
     device: &Device,
     life: u32,
     bytes: &[u8],
 ) -> Result<Saved, ImageFault>
-    requires code { code.now ≡ code_of program.now }
     requires belong { AreFor (setting_of program.now versions.now arrivals.now) }
     requires life { life ≤ MOST_TICKS }
     ensures fit { (l : Places) → IsLayoutOf program.now device.now l
@@ -267,29 +280,19 @@ pub fn accept(
         → IfErr result (IsRefused (purpose_of (setting_of program.now versions.now arrivals.now) l device.now.cap life) bytes.now) }
 {
     layouts_are_numbers();
-    let _checked = program.bodies();
-    let layout = Layout {
-        words: program.words(),
-        tasks: program.tasks(),
-        events: program.events(),
-        log: device.log,
-    };
+    let layout = layout_for(program, device);
     match check_head(&layout, device.cap, life, bytes) {
         Ok(()) => {}
         Err(fault) => return Err(fault),
     }
     match check_image(
-        alloc, program, code, versions, arrivals, device, &layout, life, bytes,
+        alloc, program, versions, arrivals, device, &layout, life, bytes,
     ) {
         Ok(()) => {}
         Err(fault) => return Err(fault),
     }
-    let Ok(image) = bytes[16..].to_vec(alloc) else {
+    let Ok(saved) = taken(alloc, bytes) else {
         return Err(ImageFault::NoMemory);
     };
-    Ok(Saved {
-        tick: number(bytes, 1),
-        stored: number(bytes, 2),
-        image,
-    })
+    Ok(saved)
 }

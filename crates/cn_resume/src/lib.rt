@@ -6,13 +6,13 @@ mod fault;
 mod head;
 mod laws;
 mod records;
-mod rerun;
 mod saved;
 mod saving;
+mod schedules;
 
 pub use accepting::accept;
 pub use fault::{ImageFault, ImageKind};
-pub use laws::one_verdict;
+pub use laws::{fit_files_are_accepted, one_verdict};
 pub use saved::Saved;
 pub use saving::write_saved;
 
