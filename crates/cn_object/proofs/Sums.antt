@@ -1,7 +1,6 @@
 -- The greatest sum over the paths of a version, and the instructions of a part of one.
-use Rattle.std.proofs.Common.{◌≡◌, ℕ, zero, suc, ◌+◌, ◌<◌, ◌≤◌, inl, List, [], ◌∷◌, length, refl, ap, arith}
+use Rattle.std.proofs.Common.{◌≡◌, ℕ, zero, suc, ◌+◌, ◌≤◌, inl, List, [], ◌∷◌, length, refl, ap, arith}
 use Rattle.std.specs.Prelude.{Some, slice_get}
-use Rattle.cat_machine.specs.declared.instr.Instr.{Instr}
 use Rattle.cat_machine.specs.CodeValue.{CodeValue}
 use Rattle.cat_machine.specs.Costs.{instr_cost, place_cost, path_cost}
 use Rattle.cost_bounds.specs.Pass.{Worth, AtEnd, TurnsBack, Leaves, Tests, Repeats, GoesOn as Straight}
