@@ -128,7 +128,7 @@ lengths_start code n lengths size e = record { size = size; each = λ pc low wit
 
 -- ---- the versions
 
-length_is_cost : (code : CodeValue) {pc : ℕ} {left path : List ℕ} → HandlerFrom code pc left path → path_cost (place_cost each_one code) path ≡ length path
+pub length_is_cost : (code : CodeValue) {pc : ℕ} {left path : List ℕ} → HandlerFrom code pc left path → path_cost (place_cost each_one code) path ≡ length path
 length_is_cost code (Ends {pc} is) = let one : place_cost each_one code pc ≡ 1 = ap (instr_cost each_one) is in omega (arith, one)
 length_is_cost code (LeadsOn {pc} x is leads rest) =
     let one : place_cost each_one code pc ≡ 1 = ap (instr_cost each_one) is in

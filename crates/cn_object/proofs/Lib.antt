@@ -15,3 +15,4 @@ pub mod Around
 pub mod Verdicts
 pub mod Ways
 pub mod Counting
+pub mod Sums

@@ -350,7 +350,7 @@ module _ (u : Costs) (code : CodeValue) (l : Looped code) where
   ends_within q left _ is (Plain never w around) = let low = worth_end q _ w is in omega (arith, low, cost_at q i.End is)
   ends_within q _ _ is (AtTurn end at wa wb around) = absurd (let clash : i.End ≡ i.Turn end = instr_same code q i.End (i.Turn end) is at in cc)
 
-  leads_within : (pc next : ℕ) (left later path : List ℕ) (x : Instr) (m : ℕ) → InVersions code pc → slice_get code.instrs pc ≡ Some x → IsStep pc left x next later → Rest next later path → Within pc left m → Sum (pc ∷ path) ≤ m
+  pub leads_within : (pc next : ℕ) (left later path : List ℕ) (x : Instr) (m : ℕ) → InVersions code pc → slice_get code.instrs pc ≡ Some x → IsStep pc left x next later → Rest next later path → Within pc left m → Sum (pc ∷ path) ≤ m
   leads_within pc next left later path x _ v is leads h (Plain {c = c} {r = r} never w around) =
       let s = plain_step pc left x next later path c r v never is leads h w around in omega (arith, s, cost_at pc x is)
   leads_within pc next _ later path x _ v is leads h (AtTurn {left} {k} {a} {b} {r} end at wa wb around) =
@@ -363,7 +363,7 @@ module _ (u : Costs) (code : CodeValue) (l : Looped code) where
 
   -- ---- a version
 
-  entry_no_turn : (pc : ℕ) → IsEntry code pc → InVersions code pc → NoTurn code pc
+  pub entry_no_turn : (pc : ℕ) → IsEntry code pc → InVersions code pc → NoTurn code pc
   entry_no_turn pc entry v end at =
       let r = repeat_at code pc end l at in
       let low : pc < length code.instrs = v.1 in

@@ -11,3 +11,4 @@ pub mod Verdict
 pub mod Fitting
 pub mod Running
 pub mod Lengths
+pub mod Sums

@@ -1,4 +1,4 @@
-ghost use Rattle.std.specs.Prelude.{◌≡◌, ℕ, List, Some, length};
+ghost use Rattle.std.specs.Prelude.{◌≡◌, ℕ, List, Some, length, slice_get};
 ghost use Rattle.cat_machine.specs.declared.instr.Mode.{Mode as Way};
 ghost use Rattle.cat_machine.specs.CodeValue.{CodeValue};
 ghost use Rattle.cat_machine.specs.Held.{Held};
@@ -9,7 +9,10 @@ ghost use Rattle.cn_object.specs.Spelling.{IsFileOf};
 ghost use Rattle.cn_object.specs.Fitting.{FitsCode};
 ghost use Rattle.cn_object.specs.Running.{first_of};
 ghost use Rattle.cn_object.specs.declared.object.Kind.{Kind as Rule};
+ghost use Rattle.cn_object.specs.Regions.{version_entries};
+ghost use Rattle.cn_object.specs.Sums.{HandlerSums};
 ghost use Rattle.cn_object.specs.Verdict.{IsBad, IsGood, IsVerifiedObject};
+ghost use Rattle.cn_object.specs.Verified.{IsVerified};
 
 /// Bytes are the file of one object at most: a law of the definitions.
 pub fn one_object_law()
@@ -32,4 +35,10 @@ pub fn never_stuck_law()
 /// The first working state of a verified object fits its code: a law of the definitions.
 pub fn first_fits_law()
     ensures { (o : Program) → IsVerifiedObject o → length o.started ≡ length o.code.tasks → FitsCode o.code (first_of o) }
+{}
+
+/// The entry of a version of verified code is worth the greatest sum over its paths, whatever each class costs, and none of them takes
+/// more than 1,000,000 instructions: a law of the definitions.
+pub fn handler_sums_law()
+    ensures { (words tasks : ℕ) (code : CodeValue) (k entry : ℕ) → IsVerified words tasks code → slice_get (version_entries code) k ≡ Some entry → HandlerSums code entry }
 {}

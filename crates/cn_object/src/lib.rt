@@ -17,7 +17,9 @@ mod tests;
 mod verifying;
 mod writing;
 
-pub use laws::{first_fits_law, never_stuck_law, one_object_law, one_verdict_law};
+pub use laws::{
+    first_fits_law, handler_sums_law, never_stuck_law, one_object_law, one_verdict_law,
+};
 pub use object::{Kind, Object, ObjectFault};
 pub use verifying::verify;
 pub use writing::object_of;

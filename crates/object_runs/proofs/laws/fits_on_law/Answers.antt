@@ -1,0 +1,6 @@
+use Rattle.object_runs.proofs.Places.{next_on}
+use Rattle.object_runs.proofs.Acts.{does}
+use Rattle.object_runs.proofs.laws.fits_on_law.Goals as goal
+
+pub returns : goal.returns
+returns c = ?

@@ -1,0 +1,4 @@
+pub mod Resting
+pub mod Running
+pub mod Whole
+pub mod Bounds

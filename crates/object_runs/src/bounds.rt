@@ -1,0 +1,27 @@
+//! What the code of an object takes on a device.
+
+ghost use Rattle.std.specs.Prelude.{IfOk};
+ghost use Rattle.object_runs.specs.Bounds.{AreBoundsOf};
+ghost use Rattle.object_runs.specs.Resting.{IsRunnable};
+
+use cn_base::NoMemory;
+use cn_object::{Object, handler_sums_law};
+use cost_bounds::{Bounds, code_bounds};
+use nv_memory::{Device, Layout};
+use std::alloc::Global;
+
+/// The greatest units and the greatest ticks over the paths of an object that the verifier has accepted, on a device where a slot
+/// holds its words, tasks and events.
+pub fn object_bounds(alloc: Global, object: &Object, device: &Device) -> Result<Bounds, NoMemory>
+    requires { IsRunnable object.now }
+    ensures { IfOk result (AreBoundsOf object.now device.now) }
+{
+    handler_sums_law();
+    let layout = Layout {
+        words: object.words.len() as u16,
+        tasks: object.code.tasks().len() as u8,
+        events: object.code.events(),
+        log: device.log,
+    };
+    code_bounds(alloc, &object.code, device, layout.lines())
+}
