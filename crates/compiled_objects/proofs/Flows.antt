@@ -16,7 +16,7 @@ some_same x y e = cc
 
 -- ---- one instruction
 
-plain_after : (x : Instr) (pc depth : ℕ) → is_plain x ≡ true → depth_after (Some x) pc depth ≡ depth - taken x + given x
+pub plain_after : (x : Instr) (pc depth : ℕ) → is_plain x ≡ true → depth_after (Some x) pc depth ≡ depth - taken x + given x
 plain_after (i.Push n) pc depth h = refl
 plain_after (i.Load w) pc depth h = refl
 plain_after i.Payload pc depth h = refl
@@ -93,13 +93,13 @@ module _ (s : Setting) where
   test_flow test mid floor e h = omega (arith, depth_next test (i.JumpZero mid) e, h)
 
   -- behind a stretch that ends in a jump back
-  back_flow : (jump to depth : ℕ) → At s jump (i.Jump to) → to ≤ jump → D jump ≡ depth → D (jump + 1) ≡ depth - 1
+  pub back_flow : (jump to depth : ℕ) → At s jump (i.Jump to) → to ≤ jump → D jump ≡ depth → D (jump + 1) ≡ depth - 1
   back_flow jump to depth e le h = depth_next jump (i.Jump to) e ∙ jump_back_after to jump (D jump) le ∙ ap (λ n. n - 1) h
 
-  on_flow : (jump to depth : ℕ) → At s jump (i.Jump to) → jump < to → D jump ≡ depth → D (jump + 1) ≡ depth
+  pub on_flow : (jump to depth : ℕ) → At s jump (i.Jump to) → jump < to → D jump ≡ depth → D (jump + 1) ≡ depth
   on_flow jump to depth e lt h = depth_next jump (i.Jump to) e ∙ jump_on_after to jump (D jump) lt ∙ h
 
-  abbrev Flat : ℕ → Type 0
+  abbrev pub Flat : ℕ → Type 0
   Flat floor = s.task ≡ true → floor ≡ 0
 
   pub flow : (floor at end : ℕ) → Flat floor → D at ≡ floor → Stretch s floor at end → D end ≡ floor
@@ -150,21 +150,21 @@ module _ (s : Setting) where
   abbrev pub EndsWithin : ℕ → ℕ → Type 0
   EndsWithin at end = (turn far : ℕ) → TurnsAt s.code turn far → at ≤ turn → turn < end → far ≤ end
 
-  after_plains : (floor depth at mid last end : ℕ) → Plains s floor depth at mid last → EndsWithin mid end → EndsWithin at end
+  pub after_plains : (floor depth at mid last end : ℕ) → Plains s floor depth at mid last → EndsWithin mid end → EndsWithin at end
   after_plains floor depth at mid last end plains rest turn far t low high =
       elim (cases_lt turn mid) [
         | inl lt ↦ absurd (plains_no_turn floor depth at mid last plains turn far low lt t)
         | inr le ↦ rest turn far t le high
       ]
 
-  after_one : (pc end : ℕ) (x : Instr) → At s pc x → ((far : ℕ) → i.Turn far ≡ x → far ≤ end) → EndsWithin (pc + 1) end → EndsWithin pc end
+  pub after_one : (pc end : ℕ) (x : Instr) → At s pc x → ((far : ℕ) → i.Turn far ≡ x → far ≤ end) → EndsWithin (pc + 1) end → EndsWithin pc end
   after_one pc end x e here rest turn far t low high =
       elim (cases_lt pc turn) [
         | inl lt ↦ rest turn far t (omega (arith, lt)) high
         | inr le ↦ (let same : turn ≡ pc = omega (arith, low, le) in here far (other_here turn pc far x e same t))
       ]
 
-  both_within : (at mid end : ℕ) → mid ≤ end → EndsWithin at mid → EndsWithin mid end → EndsWithin at end
+  pub both_within : (at mid end : ℕ) → mid ≤ end → EndsWithin at mid → EndsWithin mid end → EndsWithin at end
   both_within at mid end lie first second turn far t low high =
       elim (cases_lt turn mid) [
         | inl lt ↦ (let le : far ≤ mid = first turn far t low lt in omega (arith, le, lie))
@@ -271,3 +271,36 @@ module _ (s : Setting) where
 
   pub inner_reach : (turn to : ℕ) → At s turn (i.Turn to) → Reached (turn + 1)
   inner_reach turn to e = IsLater turn (omega arith) (on_leads turn (turn + 1) 0 (D turn - 1 + 1) (i.Turn to) e refl (depth_next turn (i.Turn to) e))
+
+  -- a stretch leads to the place behind it
+  pub stretch_reach : (floor at end : ℕ) → Flat floor → D at ≡ floor → Reached at → Stretch s floor at end → Reached end
+  stretch_reach floor at end flat h r (Done e) = subst Reached e r
+  stretch_reach floor at end flat h r (Then mid plains rest) = stretch_reach floor mid end flat (plains_flow floor floor at mid floor h plains) (plains_reach floor floor at mid floor r plains) rest
+  stretch_reach floor at end flat h r (Tests test mid room plains jz on rest) =
+      let test_is = plains_flow floor floor at test (floor + 1) h plains in
+      let deep = flow floor (test + 1) mid flat (test_flow test mid floor jz test_is) on in
+      let lie = lies floor (test + 1) mid on in
+      stretch_reach floor mid end flat deep (zero_reach test mid floor jz (omega (arith, lie)) test_is deep) rest
+  stretch_reach floor at end flat h r (Chooses test jump mid room plains jz on j off rest) =
+      let first = test_flow test (jump + 1) floor jz (plains_flow floor floor at test (floor + 1) h plains) in
+      let lie = lies floor (jump + 1) mid off in
+      let jump_is = flow floor (test + 1) jump flat first on in
+      let deep = flow floor (jump + 1) mid flat (on_flow jump mid floor j (omega (arith, lie)) jump_is) off in
+      stretch_reach floor mid end flat deep (jump_reach jump mid j (omega (arith, lie)) (jump_is ∙ sym deep)) rest
+  stretch_reach floor at end flat h r (Loops test jump t room plains jz on j rest) =
+      let test_is = plains_flow floor floor at test (floor + 1) h plains in
+      let lie = lies floor (test + 1) jump on in
+      let le : at ≤ jump = omega (arith, plains_lie floor floor at test (floor + 1) plains, lie) in
+      let back = back_flow jump at floor j le (flow floor (test + 1) jump flat (test_flow test (jump + 1) floor jz test_is) on) in
+      let deep : D (jump + 1) ≡ floor = omega (arith, back, flat t) in
+      stretch_reach floor (jump + 1) end flat deep (zero_reach test (jump + 1) floor jz (omega (arith, lie)) test_is deep) rest
+  stretch_reach floor at end flat h r (Turns n turn jump place t few room p q body j rest) =
+      let counted = depth_there at turn (i.Push (pos n)) p place in
+      let inside_is = depth_next turn (i.Turn (jump + 1)) q in
+      let none : Flat (floor + 1) = λ e. absurd (let both = sym t ∙ e in cc) in
+      let lie = lies (floor + 1) (turn + 1) jump body in
+      let le : turn ≤ jump = omega (arith, lie) in
+      let turn_is : D turn ≡ floor + 1 = omega (arith, counted, h) in
+      let back = back_flow jump turn (floor + 1) j le (flow (floor + 1) (turn + 1) jump none (omega (arith, turn_is, inside_is)) body) in
+      let deep : D (jump + 1) ≡ floor = omega (arith, back) in
+      stretch_reach floor (jump + 1) end flat deep (turn_reach turn (jump + 1) floor q (omega (arith, lie)) turn_is deep) rest
