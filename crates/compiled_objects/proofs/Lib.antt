@@ -1,0 +1,4 @@
+pub mod Stretches
+pub mod Flows
+pub mod Places
+pub mod Visits

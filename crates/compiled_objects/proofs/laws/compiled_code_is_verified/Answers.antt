@@ -1,0 +1,5 @@
+use Rattle.compiled_objects.proofs.Visits.{places}
+use Rattle.compiled_objects.proofs.laws.compiled_code_is_verified.Goals as goal
+
+pub returns : goal.returns
+returns c = λ p checked. ?
