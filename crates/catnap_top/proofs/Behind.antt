@@ -71,9 +71,9 @@ module _ (s : Setting) (sound : AreSound s.arrivals) (handled : OwnRunsHandleArr
   not_before final event k place v n t arrival prefix is comes later =
       elim (cases_lt place (length m.entries)) [
         | inl less ↦
-          let kept : slice_get m.entries place ≡ Some (Ran event v n t k) =
-          sym (entry_kept m.entries prefix.0 place less) ∙ sym (ap (λ (es : List LogEntry). slice_get es place) prefix.1) ∙ is in
-          let early : arrival.tick < tick = came_before event k place v n t arrival kept comes in
-          absurd (omega (arith, early, later))
+            let kept : slice_get m.entries place ≡ Some (Ran event v n t k) =
+            sym (entry_kept m.entries prefix.0 place less) ∙ sym (ap (λ (es : List LogEntry). slice_get es place) prefix.1) ∙ is in
+            let early : arrival.tick < tick = came_before event k place v n t arrival kept comes in
+            absurd (omega (arith, early, later))
         | inr le ↦ le
       ]

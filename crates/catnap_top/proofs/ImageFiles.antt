@@ -70,7 +70,6 @@ module _ (p : Purpose) (file : List ℕ) (lt : most_bytes < length file) where
   before_size before kind.Schedule less = absurd (omega (arith, less))
   before_size before kind.State less = absurd (omega (arith, less))
 
-
   fault_long : (kind : ImageKind) (at : ℕ) → IsFirstFault p (front file) kind at → IsFirstFault p file kind at
   fault_long kind.Head at is = record { earlier = before_head; fails = (λ h. is.fails.0 (head_front file ∙ h), is.fails.1) }
   fault_long kind.Size at is =

@@ -9,8 +9,8 @@ use event_arrivals::{arrivals_are_counted, told_arrivals_are_sound};
 use image_meaning::images_stand_for_one;
 use lawful_timeline::{lawful_timelines_hold, starts_belong};
 use logged_runs::{agrees_with_one, own_runs_handle_arrivals};
-use nv_memory::layouts_are_numbers;
 use nv_log::records_are_read_again;
+use nv_memory::layouts_are_numbers;
 use resumed_runs::fit_images_begin;
 use timely_commits::{fresh_runs_are_on_time, resumed_runs_are_on_time};
 

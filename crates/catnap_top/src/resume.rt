@@ -88,13 +88,14 @@ fn saved_in(
     requires layout { IsLayoutOf prepared.now.program prepared.now.device prepared.now.plan.layout }
     ensures { LooksAs start_of (start_in (files_with prepared.now trace.now failures.now) prepared.now.chosen image.now) result }
 {
+    let life = trace.life();
     match accept(
         alloc,
         &prepared.program,
         prepared.chosen.versions.as_slice(),
         prepared.plan.queue.arrivals(),
         &prepared.device,
-        trace.life(),
+        life,
         image,
     ) {
         Ok(saved) => Ok(saved),
