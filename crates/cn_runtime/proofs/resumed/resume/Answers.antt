@@ -1,14 +1,14 @@
 use Rattle.cn_runtime.proofs.Resumes.{on_time, posts_many, starts, together, words_many}
 use Rattle.cn_runtime.proofs.resumed.resume.Goals as goal
 
-pub restore-requires-formed : goal.restore-requires-formed
-restore-requires-formed g c = c.requires.saved.saved.stands.committed.formed
+pub restore-requires-clause-formed : goal.restore-requires-clause-formed
+restore-requires-clause-formed g c = c.requires.saved.saved.stands.committed.formed
 
-pub restore-requires-words : goal.restore-requires-words
-restore-requires-words g c = words_many c.args.prepared.now.program c.args.prepared.now.plan c.requires.set_up c.args.prepared.now.engine c.requires.first
+pub restore-requires-clause-words : goal.restore-requires-clause-words
+restore-requires-clause-words g c = words_many c.args.prepared.now.program c.args.prepared.now.plan c.requires.set_up c.args.prepared.now.engine c.requires.first
 
-pub restore-requires-posts : goal.restore-requires-posts
-restore-requires-posts g c = posts_many c.args.prepared.now.program c.args.prepared.now.plan c.requires.set_up c.args.prepared.now.engine c.requires.first
+pub restore-requires-clause-posts : goal.restore-requires-clause-posts
+restore-requires-clause-posts g c = posts_many c.args.prepared.now.program c.args.prepared.now.plan c.requires.set_up c.args.prepared.now.engine c.requires.first
 
 pub replay_by-requires : goal.replay_by-requires
 replay_by-requires g c =
