@@ -50,6 +50,10 @@ begins_by code (Some entry) e low = version_entry code 0 entry e
 pub begins_entry : (code : CodeValue) → versions_begin code < length code.instrs → IsEntry code (versions_begin code)
 begins_entry code low = begins_by code (slice_get (version_entries code) 0) refl low
 
+-- a place is within a loop, or its turn stands there
+abbrev pub IsRound : ℕ → ℕ → ℕ → Type 0
+IsRound turn end pc = (turn ≡ pc) ⊎ IsBetween turn end pc
+
 module _ (words tasks : ℕ) (code : CodeValue) (v : IsVerified words tasks code) where
   -- ---- regions
 
@@ -144,10 +148,6 @@ module _ (words tasks : ℕ) (code : CodeValue) (v : IsVerified words tasks code
       let r = repeat_at turn end at in
       let ahead = turn_ahead turn end at in
       split turn r.last (λ h. h) (λ same. absurd (let clash : i.Turn end ≡ i.Jump turn = one_instr code turn (i.Turn end) (i.Jump turn) at (ap (slice_get code.instrs) same ∙ r.back) in cc)) (λ h. absurd (omega (arith, h, ahead, r.just_after)))
-
-  -- a place is within a loop, or its turn stands there
-  abbrev pub IsRound : ℕ → ℕ → ℕ → Type 0
-  IsRound turn end pc = (turn ≡ pc) ⊎ IsBetween turn end pc
 
   pub turn_within : (turn end pc : ℕ) → TurnsAt code turn end → IsRound turn end pc → turn ≤ pc
   turn_within turn end pc at (inl same) = omega (arith, same)
