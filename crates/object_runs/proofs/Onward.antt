@@ -32,7 +32,7 @@ not_nought : (n : ℕ) → is_nought (pos (suc n)) ≡ false
 not_nought n = first_of (grind (arith, ints), grind (arith, nat_tests), search rules)
 
 nought : is_nought (pos 0) ≡ true
-nought = first_of (refl, search rules, grind (arith, ints))
+nought = first_of (search rules, grind (arith, ints), grind (arith, nat_tests))
 
 number_same : (m n : ℕ) → pos m ≡ pos n → m ≡ n
 number_same m n e = cc
@@ -271,6 +271,7 @@ module _ (words tasks : ℕ) (code : CodeValue) (v : IsVerified words tasks code
   -- ---- each instruction
 
   onward_jump : (pc to : ℕ) (h : Held) (s : Stepping) (st : StandsAt code pc h.stack) → At code pc (i.Jump to) → versions_begin code ≤ pc → s.after.place ≡ Some to → s.after.stack ≡ h.stack → Stays h s.after → GoesBy Handler false s.did → Onward pc (i.Jump to) st.depth h s
+  unfolding stands_by
   onward_jump pc to h s st is high place same stays goes =
       let there : GoesTo code pc to = (i.Jump to, is, refl) in
       let within = target_within words tasks code v pc to there in
@@ -305,6 +306,7 @@ module _ (words tasks : ℕ) (code : CodeValue) (v : IsVerified words tasks code
   test_moves pc to next later h s st is high moves within there sum = record { is = is; high = high; deep = st.is; takes = refl; moves = moves; size = st.stack_is; within = within; there = there; sum = omega (arith, sum) }
 
   onward_test : (pc to next : ℕ) (h : Held) (s : Stepping) (st : StandsAt code pc h.stack) → At code pc (i.JumpZero to) → versions_begin code ≤ pc → (next ≡ to) ⊎ (next ≡ pc + 1) → s.after.place ≡ Some next → StackMoves 1 0 h.stack s.after.stack → Stays h s.after → GoesBy Handler true s.did → Onward pc (i.JumpZero to) st.depth h s
+  unfolding stands_by
   onward_test pc to next h s st is high (inl same) place moves stays goes =
       let there : GoesTo code pc to = (i.JumpZero to, is, refl) in
       let within = target_within words tasks code v pc to there in
@@ -341,6 +343,7 @@ module _ (words tasks : ℕ) (code : CodeValue) (v : IsVerified words tasks code
 
   onward_straight : (pc : ℕ) (x : Instr) (h : Held) (s : Stepping) (st : StandsAt code pc h.stack) → At code pc x → versions_begin code ≤ pc → is_straight x ≡ true → s.after.place ≡ Some (pc + 1) → StackMoves (taken x) (given x) h.stack s.after.stack → Stays h s.after → (outs : List Output) × (goes_on Handler s.did ≡ Some outs)
       → ((n : ℤ) → x ≡ i.Push n → slice_get s.after.stack 0 ≡ Some n) → Onward pc x st.depth h s
+  unfolding stands_by
   onward_straight pc x h s st is high straight place moves stays goes top =
       let within = next_within words tasks code v pc x is (straight_not x i.End straight refl) in
       let finds = ((stack_at words tasks code v pc st.within st.depth st.is).suits x is).finds in
@@ -396,6 +399,7 @@ module _ (words tasks : ℕ) (code : CodeValue) (v : IsVerified words tasks code
       (found.0, found.1, elim found.2 [ inl same ↦ absurd (let low = hd.below t has in omega (arith, low, same)) | inr b ↦ b ])
 
   onward_leaves : (pc to : ℕ) (top : ℤ) (h : Held) (s : Stepping) (st : StandsAt code pc h.stack) → At code pc (i.Turn to) → versions_begin code ≤ pc → slice_get h.stack 0 ≡ Some top → is_nought top ≡ true → s.after.place ≡ Some to → StackMoves 1 0 h.stack s.after.stack → Stays h s.after → (outs : List Output) × (goes_on Handler s.did ≡ Some outs) → Onward pc (i.Turn to) st.depth h s
+  unfolding stands_by
   onward_leaves pc to top h s st is high top_is zero_is place moves stays goes =
       let there : GoesTo code pc to = (i.Turn to, is, refl) in
       let within = target_within words tasks code v pc to there in
@@ -435,6 +439,7 @@ module _ (words tasks : ℕ) (code : CodeValue) (v : IsVerified words tasks code
 
   onward_turns : (pc to : ℕ) (top : ℤ) (h : Held) (s : Stepping) (st : StandsAt code pc h.stack) → At code pc (i.Turn to) → versions_begin code ≤ pc → slice_get h.stack 0 ≡ Some top → is_nought top ≡ false → slice_get s.after.stack 0 ≡ Some (int_wrapping_sub w32 top (pos 1)) → s.after.place ≡ Some (pc + 1) → StackMoves 1 1 h.stack s.after.stack → Stays h s.after
       → (outs : List Output) × (goes_on Handler s.did ≡ Some outs) → Onward pc (i.Turn to) st.depth h s
+  unfolding stands_by
   onward_turns pc to top h s st is high top_is some_is new_top place moves stays goes =
       let within = next_within words tasks code v pc (i.Turn to) is (λ e. cc) in
       let finds = ((stack_at words tasks code v pc st.within st.depth st.is).suits (i.Turn to) is).finds in
