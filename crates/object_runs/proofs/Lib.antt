@@ -1,3 +1,5 @@
 pub mod Places
 pub mod Acts
 pub mod Onward
+pub mod Runs
+pub mod Tasks

@@ -1,8 +1,8 @@
 -- The places of verified code, and the loops around them.
-use Rattle.std.proofs.Common.{◌≡◌, ◌≢◌, ℕ, zero, suc, ◌+◌, ◌<◌, ◌≤◌, ◌⊎◌, inl, inr, List, [], ◌∷◌, ◌++◌, length, refl, sym, ◌∙◌, ap, subst, Bool, true, false, arith}
+use Rattle.std.proofs.Common.{◌≡◌, ◌≢◌, ℕ, zero, suc, ◌+◌, ◌-◌, ◌<◌, ◌≤◌, ◌⊎◌, inl, inr, List, [], ◌∷◌, ◌++◌, length, refl, sym, ◌∙◌, ap, subst, get_or, Bool, true, false, arith}
 use Rattle.std.specs.Prelude.{◌↔◌, Option, Some, None, pos, slice_get, unwrap_or}
 use Rattle.std.proofs.lemmas.Bool.{cases_lt}
-use Rattle.std.proofs.lemmas.Option.{slice_get_within}
+use Rattle.std.proofs.lemmas.Option.{slice_get-get_or, slice_get_within}
 use Rattle.cat_machine.specs.declared.instr.Instr.{Instr}
 use Rattle.cat_machine.specs.declared.instr.Instr.TheVariants as i
 use Rattle.cat_machine.specs.CodeValue.{CodeValue}
@@ -106,6 +106,52 @@ module _ (words tasks : ℕ) (code : CodeValue) (v : IsVerified words tasks code
         | inl g ↦ g
         | inr g ↦ absurd (let up : versions_begin code ≤ pc = (((region_at pc goes.0 goes.1).stays to goes.2).region (versions_begin code) (begins_entry code (omega (arith, g, low)))).1 g in omega (arith, up, h))
       ]
+
+  rising : (d j a b : ℕ) → slice_get (all_entries code) j ≡ Some a → slice_get (all_entries code) (j + d) ≡ Some b → a + d ≤ b
+  rising zero j a b p q = let same : j + 0 ≡ j = omega arith in let equal : a ≡ b = some_same a b (sym p ∙ ap (slice_get (all_entries code)) (sym same) ∙ q) in omega (arith, equal)
+  rising (suc d) j a b p q =
+      let es = all_entries code in
+      let inside = slice_get_within es (j + suc d) b q in
+      let mid : slice_get es (j + d) ≡ Some (get_or es (j + d) 0) = slice_get-get_or es (j + d) 0 (omega (arith, inside)) in
+      let before = rising d j a (get_or es (j + d) 0) p mid in
+      let same : j + suc d ≡ j + d + 1 = omega arith in
+      let up = v.entries.ascend (j + d) (get_or es (j + d) 0) b mid (ap (slice_get es) (sym same) ∙ q) in
+      omega (arith, before, up)
+
+  task_low_by : (t pc : ℕ) → slice_get code.tasks t ≡ Some pc → (o : Option ℕ) → slice_get (version_entries code) 0 ≡ o → pc < unwrap_or o (length code.instrs)
+  task_low_by t pc e None none = v.entries.within t pc (in_front code.tasks (version_entries code) t pc e)
+  task_low_by t pc e (Some entry) first =
+      let inside = slice_get_within code.tasks t pc e in
+      let d = length code.tasks - t in
+      let same : length code.tasks + 0 ≡ t + d = omega (arith, inside) in
+      let last : slice_get (all_entries code) (t + d) ≡ Some entry = ap (slice_get (all_entries code)) (sym same) ∙ behind code.tasks (version_entries code) 0 entry first in
+      let up = rising d t pc entry (in_front code.tasks (version_entries code) t pc e) last in
+      omega (arith, up, inside)
+
+  low_by : (o : Option ℕ) → slice_get (version_entries code) 0 ≡ o → unwrap_or o (length code.instrs) ≤ length code.instrs
+  low_by None none = omega arith
+  low_by (Some entry) first = let low = v.entries.within (length code.tasks + 0) entry (behind code.tasks (version_entries code) 0 entry first) in omega (arith, low)
+
+  -- the tasks' places are places of the code
+  pub in_code : (pc : ℕ) → pc < versions_begin code → pc < length code.instrs
+  in_code pc low = let most = low_by (slice_get (version_entries code) 0) refl in omega (arith, low, most)
+
+  -- a task begins in the tasks' code
+  pub task_entry_low : (t pc : ℕ) → slice_get code.tasks t ≡ Some pc → pc < versions_begin code
+  task_entry_low t pc e = task_low_by t pc e (slice_get (version_entries code) 0) refl
+
+  -- a version begins in the versions' code
+  pub version_entry_high : (k pc : ℕ) → slice_get (version_entries code) k ≡ Some pc → versions_begin code ≤ pc
+  version_entry_high k pc e = high_by (slice_get (version_entries code) 0) refl
+    where
+      high_by : (o : Option ℕ) → slice_get (version_entries code) 0 ≡ o → unwrap_or o (length code.instrs) ≤ pc
+      high_by None none = absurd (let inside = slice_get_within (version_entries code) k pc e in
+          let some : slice_get (version_entries code) 0 ≡ Some (get_or (version_entries code) 0 0) = slice_get-get_or (version_entries code) 0 0 (omega (arith, inside)) in
+          let clash : None ≡ Some (get_or (version_entries code) 0 0) = sym none ∙ some in cc)
+      high_by (Some entry) first =
+          let same : length code.tasks + 0 + k ≡ length code.tasks + k = omega arith in
+          let up = rising k (length code.tasks + 0) entry pc (behind code.tasks (version_entries code) 0 entry first) (ap (slice_get (all_entries code)) same ∙ behind code.tasks (version_entries code) k pc e) in
+          omega (arith, up)
 
   pub target_no_begin : (pc to : ℕ) → GoesTo code pc to → (t : ℕ) → slice_get code.instrs to ≢ Some (i.Begin t)
   target_no_begin pc to goes = ((region_at pc goes.0 goes.1).stays to goes.2).no_begin

@@ -1,4 +1,4 @@
-use Rattle.object_runs.proofs.Places.{next_on}
+use Rattle.object_runs.proofs.Tasks.{over}
 use Rattle.object_runs.proofs.Onward.{onward}
 use Rattle.object_runs.proofs.laws.fits_on_law.Goals as goal
 
