@@ -3,3 +3,4 @@ pub mod Acts
 pub mod Onward
 pub mod Runs
 pub mod Tasks
+pub mod Fitting

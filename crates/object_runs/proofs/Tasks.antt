@@ -68,8 +68,8 @@ module _ (words tasks : ℕ) (code : CodeValue) (v : IsVerified words tasks code
   -- a section that has ended
   pub record IsOver (h : Held) (s : Stepping) : Type 0 where
     pub stops : goes_on Task s.did ≡ None
-    pub words : length s.after.words ≡ length h.words
-    pub posts : length s.after.posts ≡ length h.posts
+    pub words_are : length s.after.words ≡ length h.words
+    pub posts_are : length s.after.posts ≡ length h.posts
     pub free : s.after.kept ≡ None
     pub empty : s.after.stack ≡ []
     pub place : CanBeKept code s.after.place
@@ -86,8 +86,8 @@ module _ (words tasks : ℕ) (code : CodeValue) (v : IsVerified words tasks code
   is_over : (next later : ℕ) (h : Held) (s : Stepping) → h.kept ≡ None → goes_on Task s.did ≡ None → s.after.place ≡ Some next → Stays h s.after → next < versions_begin code → ((t : ℕ) → slice_get code.instrs next ≢ Some (i.Begin t)) → IsDepth code next later → length s.after.stack ≡ later → later ≡ 0 → IsOver h s
   is_over next later h s kept stops place stays low no_begin is size none = record {
     stops = stops;
-    words = stays.words;
-    posts = stays.posts;
+    words_are = stays.words;
+    posts_are = stays.posts;
     free = stays.kept ∙ kept;
     empty = no_stack s.after.stack later size none;
     place = subst (CanBeKept code) (sym place) (record { task = low; no_begin = no_begin }, subst (IsDepth code next) none is);
@@ -173,8 +173,8 @@ module _ (words tasks : ℕ) (code : CodeValue) (v : IsVerified words tasks code
       let none = ((stack_at words tasks code v pc st.within st.depth st.is).suits x is).ends e in
       record {
         stops = ap (goes_on Task) ends.0;
-        words = w;
-        posts = p;
+        words_are = w;
+        posts_are = p;
         free = kept;
         empty = stack ∙ no_stack h.stack st.depth st.stack_is none;
         place = subst (CanBeKept code) (sym ends.1) tt;
@@ -198,9 +198,10 @@ module _ (words tasks : ℕ) (code : CodeValue) (v : IsVerified words tasks code
   idle_in h pc kept place empty next =
       let from : entry_of code (first_posted h.posts) ≡ Some pc = sym (ap (place_or code h.posts) place) ∙ next in
       let entry = posted_at (first_posted h.posts) pc from in
-      let within = v.entries.within entry.0 pc (task_entry code entry.0 pc entry.1).1 in
+      let begins = task_entry code entry.0 pc entry.1 in
+      let within = v.entries.within begins.0 pc begins.1 in
       let low = task_entry_low words tasks code v entry.0 pc entry.1 in
-      record { kept = kept; next = next; low = low; stands = task_stands pc 0 h.stack within low (entry_depth words tasks code v pc within (task_entry code entry.0 pc entry.1)) (ap length empty) }
+      record { kept = kept; next = next; low = low; stands = task_stands pc 0 h.stack within low (entry_depth words tasks code v pc within begins) (ap length empty) }
 
   -- where the next instruction of a task stands
   pub stands_task : (h : Held) (pc : ℕ) → StandsIn code h → h.kept ≡ None → next_of code h ≡ Some pc → IsIn h pc
