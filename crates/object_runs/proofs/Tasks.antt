@@ -38,7 +38,7 @@ acts_given (i.LoadAt base len) s a = absurd (let clash : false ≡ true = a in c
 acts_given (i.Turn to) s a = absurd (let clash : false ≡ true = s in cc)
 acts_given _ s a = refl
 
-no_stack : (stack : List ℤ) (n : ℕ) → length stack ≡ n → n ≡ 0 → stack ≡ []
+pub no_stack : (stack : List ℤ) (n : ℕ) → length stack ≡ n → n ≡ 0 → stack ≡ []
 no_stack stack n e z = nil_from_length stack (e ∙ z)
 
 module _ (words tasks : ℕ) (code : CodeValue) (v : IsVerified words tasks code) where
