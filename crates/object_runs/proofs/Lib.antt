@@ -4,3 +4,5 @@ pub mod Onward
 pub mod Runs
 pub mod Tasks
 pub mod Fitting
+pub mod Handlers
+pub mod Sections

@@ -133,8 +133,11 @@ module _ (words tasks : ℕ) (code : CodeValue) (v : IsVerified words tasks code
   low_by (Some entry) first = let low = v.entries.within (length code.tasks + 0) entry (behind code.tasks (version_entries code) 0 entry first) in omega (arith, low)
 
   -- the tasks' places are places of the code
+  pub tasks_within : versions_begin code ≤ length code.instrs
+  tasks_within = low_by (slice_get (version_entries code) 0) refl
+
   pub in_code : (pc : ℕ) → pc < versions_begin code → pc < length code.instrs
-  in_code pc low = let most = low_by (slice_get (version_entries code) 0) refl in omega (arith, low, most)
+  in_code pc low = let most = tasks_within in omega (arith, low, most)
 
   -- a task begins in the tasks' code
   pub task_entry_low : (t pc : ℕ) → slice_get code.tasks t ≡ Some pc → pc < versions_begin code
@@ -215,6 +218,14 @@ module _ (words tasks : ℕ) (code : CodeValue) (v : IsVerified words tasks code
       let loops = loops_at pc (within_code pc goes.0 goes.1) h in
       let other : (to ≢ turn) → IsRound turn end to = λ differ. inr ((loops.jump to goes turn end at (λ back. differ back.1)).0 b) in
       split to turn (λ low. other (λ e. omega (arith, low, e))) (λ same. inl (sym same)) (λ high. other (λ e. omega (arith, high, e)))
+
+  -- no loop is around an entry
+  pub entry_no_round : (pc turn end : ℕ) → IsEntry code pc → TurnsAt code turn end → IsRound turn end pc → ⊥
+  entry_no_round pc turn end entry at (inl same) =
+      let r = repeat_at turn end at in
+      next_no_entry r.before (i.Push (pos r.turns)) r.pushed (λ e. cc) (subst (IsEntry code) (sym same ∙ r.just_before) entry)
+  entry_no_round pc turn end entry at (inr b) =
+      let low : pc ≤ turn = (((region_at turn (i.Turn end) at).stays end refl).region pc entry).1 (omega (arith, b.1)) in omega (arith, low, b.0)
 
   -- nothing goes on to a turn but the push before it
   pub turn_pushed : (pc end : ℕ) (x : Instr) → At code pc x → TurnsAt code (pc + 1) end → (n : ℕ) × (n ≤ 1000) × (x ≡ i.Push (pos n))
