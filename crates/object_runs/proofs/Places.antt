@@ -1,8 +1,8 @@
 -- The places of verified code, and the loops around them.
-use Rattle.std.proofs.Common.{◌≡◌, ◌≢◌, ℕ, zero, suc, ◌+◌, ◌<◌, ◌≤◌, ◌⊎◌, inl, inr, List, [], ◌∷◌, ◌++◌, length, refl, sym, ◌∙◌, ap, subst, Bool, true, false, arith}
+use Rattle.std.proofs.Common.{◌≡◌, ◌≢◌, ℕ, zero, suc, ◌+◌, ◌-◌, ◌<◌, ◌≤◌, ◌⊎◌, inl, inr, List, [], ◌∷◌, ◌++◌, length, refl, sym, ◌∙◌, ap, subst, get_or, Bool, true, false, arith}
 use Rattle.std.specs.Prelude.{◌↔◌, Option, Some, None, pos, slice_get, unwrap_or}
 use Rattle.std.proofs.lemmas.Bool.{cases_lt}
-use Rattle.std.proofs.lemmas.Option.{slice_get_within}
+use Rattle.std.proofs.lemmas.Option.{slice_get-get_or, slice_get_within}
 use Rattle.cat_machine.specs.declared.instr.Instr.{Instr}
 use Rattle.cat_machine.specs.declared.instr.Instr.TheVariants as i
 use Rattle.cat_machine.specs.CodeValue.{CodeValue}
@@ -49,6 +49,10 @@ begins_by code (Some entry) e low = version_entry code 0 entry e
 
 pub begins_entry : (code : CodeValue) → versions_begin code < length code.instrs → IsEntry code (versions_begin code)
 begins_entry code low = begins_by code (slice_get (version_entries code) 0) refl low
+
+-- a place is within a loop, or its turn stands there
+abbrev pub IsRound : ℕ → ℕ → ℕ → Type 0
+IsRound turn end pc = (turn ≡ pc) ⊎ IsBetween turn end pc
 
 module _ (words tasks : ℕ) (code : CodeValue) (v : IsVerified words tasks code) where
   -- ---- regions
@@ -103,6 +107,55 @@ module _ (words tasks : ℕ) (code : CodeValue) (v : IsVerified words tasks code
         | inr g ↦ absurd (let up : versions_begin code ≤ pc = (((region_at pc goes.0 goes.1).stays to goes.2).region (versions_begin code) (begins_entry code (omega (arith, g, low)))).1 g in omega (arith, up, h))
       ]
 
+  rising : (d j a b : ℕ) → slice_get (all_entries code) j ≡ Some a → slice_get (all_entries code) (j + d) ≡ Some b → a + d ≤ b
+  rising zero j a b p q = let same : j + 0 ≡ j = omega arith in let equal : a ≡ b = some_same a b (sym p ∙ ap (slice_get (all_entries code)) (sym same) ∙ q) in omega (arith, equal)
+  rising (suc d) j a b p q =
+      let es = all_entries code in
+      let inside = slice_get_within es (j + suc d) b q in
+      let mid : slice_get es (j + d) ≡ Some (get_or es (j + d) 0) = slice_get-get_or es (j + d) 0 (omega (arith, inside)) in
+      let before = rising d j a (get_or es (j + d) 0) p mid in
+      let same : j + suc d ≡ j + d + 1 = omega arith in
+      let up = v.entries.ascend (j + d) (get_or es (j + d) 0) b mid (ap (slice_get es) (sym same) ∙ q) in
+      omega (arith, before, up)
+
+  task_low_by : (t pc : ℕ) → slice_get code.tasks t ≡ Some pc → (o : Option ℕ) → slice_get (version_entries code) 0 ≡ o → pc < unwrap_or o (length code.instrs)
+  task_low_by t pc e None none = v.entries.within t pc (in_front code.tasks (version_entries code) t pc e)
+  task_low_by t pc e (Some entry) first =
+      let inside = slice_get_within code.tasks t pc e in
+      let d = length code.tasks - t in
+      let same : length code.tasks + 0 ≡ t + d = omega (arith, inside) in
+      let last : slice_get (all_entries code) (t + d) ≡ Some entry = ap (slice_get (all_entries code)) (sym same) ∙ behind code.tasks (version_entries code) 0 entry first in
+      let up = rising d t pc entry (in_front code.tasks (version_entries code) t pc e) last in
+      omega (arith, up, inside)
+
+  low_by : (o : Option ℕ) → slice_get (version_entries code) 0 ≡ o → unwrap_or o (length code.instrs) ≤ length code.instrs
+  low_by None none = omega arith
+  low_by (Some entry) first = let low = v.entries.within (length code.tasks + 0) entry (behind code.tasks (version_entries code) 0 entry first) in omega (arith, low)
+
+  -- the tasks' places are places of the code
+  pub tasks_within : versions_begin code ≤ length code.instrs
+  tasks_within = low_by (slice_get (version_entries code) 0) refl
+
+  pub in_code : (pc : ℕ) → pc < versions_begin code → pc < length code.instrs
+  in_code pc low = let most = tasks_within in omega (arith, low, most)
+
+  -- a task begins in the tasks' code
+  pub task_entry_low : (t pc : ℕ) → slice_get code.tasks t ≡ Some pc → pc < versions_begin code
+  task_entry_low t pc e = task_low_by t pc e (slice_get (version_entries code) 0) refl
+
+  -- a version begins in the versions' code
+  pub version_entry_high : (k pc : ℕ) → slice_get (version_entries code) k ≡ Some pc → versions_begin code ≤ pc
+  version_entry_high k pc e = high_by (slice_get (version_entries code) 0) refl
+    where
+      high_by : (o : Option ℕ) → slice_get (version_entries code) 0 ≡ o → unwrap_or o (length code.instrs) ≤ pc
+      high_by None none = absurd (let inside = slice_get_within (version_entries code) k pc e in
+          let some : slice_get (version_entries code) 0 ≡ Some (get_or (version_entries code) 0 0) = slice_get-get_or (version_entries code) 0 0 (omega (arith, inside)) in
+          let clash : None ≡ Some (get_or (version_entries code) 0 0) = sym none ∙ some in cc)
+      high_by (Some entry) first =
+          let same : length code.tasks + 0 + k ≡ length code.tasks + k = omega arith in
+          let up = rising k (length code.tasks + 0) entry pc (behind code.tasks (version_entries code) 0 entry first) (ap (slice_get (all_entries code)) same ∙ behind code.tasks (version_entries code) k pc e) in
+          omega (arith, up)
+
   pub target_no_begin : (pc to : ℕ) → GoesTo code pc to → (t : ℕ) → slice_get code.instrs to ≢ Some (i.Begin t)
   target_no_begin pc to goes = ((region_at pc goes.0 goes.1).stays to goes.2).no_begin
 
@@ -145,10 +198,6 @@ module _ (words tasks : ℕ) (code : CodeValue) (v : IsVerified words tasks code
       let ahead = turn_ahead turn end at in
       split turn r.last (λ h. h) (λ same. absurd (let clash : i.Turn end ≡ i.Jump turn = one_instr code turn (i.Turn end) (i.Jump turn) at (ap (slice_get code.instrs) same ∙ r.back) in cc)) (λ h. absurd (omega (arith, h, ahead, r.just_after)))
 
-  -- a place is within a loop, or its turn stands there
-  abbrev pub IsRound : ℕ → ℕ → ℕ → Type 0
-  IsRound turn end pc = (turn ≡ pc) ⊎ IsBetween turn end pc
-
   pub turn_within : (turn end pc : ℕ) → TurnsAt code turn end → IsRound turn end pc → turn ≤ pc
   turn_within turn end pc at (inl same) = omega (arith, same)
   turn_within turn end pc at (inr b) = omega (arith, b.0)
@@ -169,6 +218,14 @@ module _ (words tasks : ℕ) (code : CodeValue) (v : IsVerified words tasks code
       let loops = loops_at pc (within_code pc goes.0 goes.1) h in
       let other : (to ≢ turn) → IsRound turn end to = λ differ. inr ((loops.jump to goes turn end at (λ back. differ back.1)).0 b) in
       split to turn (λ low. other (λ e. omega (arith, low, e))) (λ same. inl (sym same)) (λ high. other (λ e. omega (arith, high, e)))
+
+  -- no loop is around an entry
+  pub entry_no_round : (pc turn end : ℕ) → IsEntry code pc → TurnsAt code turn end → IsRound turn end pc → ⊥
+  entry_no_round pc turn end entry at (inl same) =
+      let r = repeat_at turn end at in
+      next_no_entry r.before (i.Push (pos r.turns)) r.pushed (λ e. cc) (subst (IsEntry code) (sym same ∙ r.just_before) entry)
+  entry_no_round pc turn end entry at (inr b) =
+      let low : pc ≤ turn = (((region_at turn (i.Turn end) at).stays end refl).region pc entry).1 (omega (arith, b.1)) in omega (arith, low, b.0)
 
   -- nothing goes on to a turn but the push before it
   pub turn_pushed : (pc end : ℕ) (x : Instr) → At code pc x → TurnsAt code (pc + 1) end → (n : ℕ) × (n ≤ 1000) × (x ≡ i.Push (pos n))

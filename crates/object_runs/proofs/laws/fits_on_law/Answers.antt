@@ -1,6 +1,5 @@
-use Rattle.object_runs.proofs.Places.{next_on}
-use Rattle.object_runs.proofs.Acts.{does}
+use Rattle.object_runs.proofs.Fitting.{fits_on}
 use Rattle.object_runs.proofs.laws.fits_on_law.Goals as goal
 
 pub returns : goal.returns
-returns c = ?
+returns c = fits_on
