@@ -2,3 +2,4 @@ pub mod Stretches
 pub mod Flows
 pub mod Places
 pub mod Visits
+pub mod Bodies
