@@ -3,3 +3,4 @@ pub mod Flows
 pub mod Places
 pub mod Visits
 pub mod Bodies
+pub mod Regions
