@@ -4,3 +4,4 @@ pub mod Places
 pub mod Visits
 pub mod Bodies
 pub mod Regions
+pub mod Laying
