@@ -5,3 +5,4 @@ pub mod Visits
 pub mod Bodies
 pub mod Regions
 pub mod Laying
+pub mod EachPlace
