@@ -6,3 +6,5 @@ pub mod Bodies
 pub mod Regions
 pub mod Laying
 pub mod EachPlace
+pub mod Lists
+pub mod Lengths
