@@ -8,3 +8,4 @@ pub mod Laying
 pub mod EachPlace
 pub mod Lists
 pub mod Lengths
+pub mod Whole
