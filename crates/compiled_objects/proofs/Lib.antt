@@ -2,3 +2,10 @@ pub mod Stretches
 pub mod Flows
 pub mod Places
 pub mod Visits
+pub mod Bodies
+pub mod Regions
+pub mod Laying
+pub mod EachPlace
+pub mod Lists
+pub mod Lengths
+pub mod Whole

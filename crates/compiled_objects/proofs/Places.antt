@@ -102,7 +102,7 @@ no_task t a b = let both : true ≡ false = sym a ∙ b in cc
 
 -- ---- ways
 
-one_way : (f : ℕ → ℕ) (a : Way) (k to later : ℕ) → f a.to ≡ a.depth → slice_get (a ∷ []) k ≡ Some (way to later) → f to ≡ later
+pub one_way : (f : ℕ → ℕ) (a : Way) (k to later : ℕ) → f a.to ≡ a.depth → slice_get (a ∷ []) k ≡ Some (way to later) → f to ≡ later
 one_way f a zero to later h e =
     let same : a ≡ way to later = some_same a (way to later) e in
     ap (λ (v : Way). f v.to) (sym same) ∙ h ∙ ap (λ (v : Way). v.depth) same
