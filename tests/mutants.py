@@ -230,7 +230,7 @@ def main():
             for _ in range(source.choice([1, 1, 1, 2, 3])):
                 try:
                     file = mutated(source, file)
-                except (struct.error, IndexError):
+                except (struct.error, IndexError, ValueError):
                     break  # an earlier change has left no file that can be taken apart
             mutants.look(source, f"mutant {number}", file)
     for kind, times in sorted(mutants.counts.items()):
