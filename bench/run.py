@@ -15,6 +15,7 @@ that of the half.
 import os
 import re
 import statistics
+import struct
 import subprocess
 import sys
 import tempfile
@@ -82,6 +83,42 @@ def image(case):
     return files, ["image", *words[1:]]
 
 
+def resume(case, saved):
+    """The same files and a saved image for the command `resume`."""
+    files, words = case
+    return {**files, "I": saved}, ["resume", *words[1:], "I"]
+
+
+def saved_events(served, ticks):
+    """An image of PERIODIC on the device of NODE in which so many events were served, at some tick with nothing under way. The trace has to be that
+    of `rests`."""
+    records, x = b"", 0
+    for index in range(served):
+        x += index % 9
+        records += struct.pack("<BBHiII", 1, 1, 0, x, 0, 0) + struct.pack("<BBHIII", 2, 0, 0, 0, 100 * index, index)
+    slot = struct.pack("<IIIiI", 2 * served, 0, 2**32 - 1, x, served)
+    return b"CNI1" + struct.pack("<III", ticks, 1000, 0) + bytes(64) + slot.ljust(128, b"\0") + records.ljust(16000000, b"\0")
+
+
+def saved_outputs(count):
+    """An image of OUTPUTS in which so many values were put out, three steps for each."""
+    records = b"".join(struct.pack("<BBHiII", 1, 1, 0, value, 0, 0) for value in range(count))
+    slot = struct.pack("<IIIiI", count, 3 * count + 1, 1, count, 0)
+    return b"CNI1" + struct.pack("<III", 1000000, 1000, 0) + bytes(64) + slot.ljust(128, b"\0") + records.ljust(16000000, b"\0")
+
+
+def object_file(words, instructions):
+    """The object file of one task that is started once, its instructions given by their numbers, a and c."""
+    code = b"".join(struct.pack("<BBHI", number, a, 0, c) for number, a, c in instructions)
+    return b"CNO1" + struct.pack("<HBBI", words, 1, 0, len(instructions)) + bytes(4 * words) + struct.pack("<HHI", 1, 0, 0) + code
+
+
+BEGIN, END, LOAD, PUSH, ADD, STORE, OUT, JUMP, JUMPZERO = (21, 0, 0), (22, 0, 0), (1, 0, 0), (0, 0, 1), (5, 0, 0), (24, 0, 0), (27, 1, 0), (18, 0, 1), (19, 0, 10)
+SUMS = [LOAD, PUSH, ADD, STORE]
+# OUTPUTS as an object
+OUTPUTS_CODE = [BEGIN, PUSH, JUMPZERO, LOAD, OUT, *SUMS, JUMP, END]
+
+
 def uplink(case, steps):
     """The same files and a link whose packets are sent, delivered and acknowledged in turn."""
     files, words = case
@@ -112,6 +149,9 @@ def cases(part):
         "run-outputs-1000000": ({"F": OUTPUTS}, ["run", "F", str(million)]),
         "list-60000": ({"F": task}, ["list", "F"]),
         "object-60000": ({"F": task}, ["object", "F"]),
+        # the longest object, verified and run, and one that runs for a million steps
+        "runobject-60000": ({"O": object_file(1, [BEGIN, *SUMS * (14999 // part), END])}, ["runobject", "O", "1000000"]),
+        "runobject-outputs-1000000": ({"O": object_file(1, OUTPUTS_CODE)}, ["runobject", "O", str(million)]),
         # the harvest is searched for by halves, and each test has a window of 720,720 ticks
         "plan-16-events": ({"F": many, "D": DEVICE.format(q=1)}, ["plan", "F", "D"]),
         "run-14900-sums": ({"F": long_task("x=x+1;", 14900 // part)}, ["run", "F", "1000000"]),
@@ -135,6 +175,9 @@ def cases(part):
         ),
         # the image of a long log, and the same log over a link with the most steps that a table may have
         "image-events-10000": image(replay(PERIODIC, NODE.format(q=5), rests)),
+        # a saved image of a long log whose run has to be checked: that of events, with as much of the trace still to come, and one of a million steps
+        "resume-events-5000": resume(replay(PERIODIC, NODE.format(q=5), rests), saved_events(5000 // part, 500000 // part)),
+        "resume-outputs-300000": resume(replay(OUTPUTS, NODE.format(q=5), steady), saved_outputs(300000 // part)),
         "uplink-100000-steps": uplink(replay(PERIODIC, NODE.format(q=5), rests), 100000 // part),
         # a replay of the program's own files, in sizes that grow
         **{f"bench-{size}": ({}, ["bench", str(size // part)]) for size in (100, 200, 400, 800, 1665)},
@@ -186,8 +229,8 @@ def runs(programs, case, repeats, is_count):
     files, words = case
     with tempfile.TemporaryDirectory() as folder:
         for file, text in files.items():
-            with open(os.path.join(folder, file), "w") as made:
-                made.write(text)
+            with open(os.path.join(folder, file), "wb") as made:
+                made.write(text if isinstance(text, bytes) else text.encode())
         return [Run(program, words, folder, repeats, is_count) for program in programs]
 
 

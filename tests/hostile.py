@@ -23,6 +23,7 @@ import re
 import resource
 import shutil
 import signal
+import struct
 import subprocess
 import sys
 import tempfile
@@ -40,7 +41,8 @@ FILE_LIMIT = 16777216
 NAME = r"[A-Za-z_]\w{0,30}"
 CHOSEN = rf"(?:version {NAME} \d units \d+ ticks \d+\n)*numbers lines \d+ checkpoint \d+ section \d+ reserve \d+ level \d+ window \d+\n"
 LIFE = rf"(?:dropped \d+ {NAME}\n)*(?:lost \d+\n|(?:boot|commit) \d+ \d+ \d+\n)*"
-LOG = rf"(?:out \d+ -?\d+\n|ran {NAME} \d+ \d \d+ \d+ \d+ (?:met|late)\n)*"
+LOG = rf"(?:out \d+ -?\d+\n|ran {NAME} \d+ \d \d+ \d+ (?:%s)\n)*"
+DONE = r"\d+ (?:met|late)"
 REPORT = CHOSEN + LIFE + LOG + rf"end \d+ \d+ \d+ %s\n(?:var {NAME}(?: -?\d+)+\n)*"
 CONDITIONS = """BadNumber TooManyVars TooManyEvents TooManyTasks TooManyVersions Twice Unknown WrongType WhileInEvent RepeatInTask PayloadInTask
 DeadlineTooLong DegradeTooOften StackTooDeep HandlerTooLong CodeTooLong""".split()
@@ -56,21 +58,25 @@ FAULTS = {
     9: r"fault fails \d+ (?:Long|Header|Many|Fields|Number|Range|Fill|Order)\n",
     10: r"fault window \d+\n",
     11: rf"fault rejected {FAILING}\n",
+    14: r"fault image (?:Head|Size|Tick|Stored|Slot|Steps|Place|Record|Done|Schedule|State) \d+\n",
+    16: r"fault object (?:Form 0|(?:Operand|Region|Stack|Loop|Long) \d+)\n",
     17: r"fault link \d+ (?:Long|Header|Many|Fields|Number|Name|Range)\n",
 }
 TEXTS = {
-    "run": {0: r"(?:out \d+ -?\d+\n)*steps \d+\n"},
+    **{command: {0: r"(?:out \d+ -?\d+\n)*steps \d+\n"} for command in ("run", "runobject")},
     "list": {0: rf"(?:(?:task {NAME}|event {NAME} \d) \d+\n|\d+ [a-z]+(?: \d+)*\n)*"},
     "check": {0: CHOSEN},
     "object": {0: r"(?s:CNO1.{8,})"},
     "plan": {0: rf"plan (?:none {FAILING}\n|\d+\n{CHOSEN}below (?:none|{FAILING})\n)"},
-    "replay": {0: REPORT % "trace", 12: REPORT % "log"},
+    "replay": {0: REPORT % (DONE, "trace"), 12: REPORT % (DONE, "log")},
+    "resume": {0: REPORT % (f"{DONE}|- before", "trace"), 12: REPORT % (f"{DONE}|- before", "log")},
     "image": {status: r"(?s:CNI1.{8}\0\0\0\0.{64,})" for status in (0, 12)},
     "uplink": {status: rf"link \d+ \d+ \d+\nrounds \d+\n(?:out \d+ -?\d+\n|ran {NAME} \d+ \d \d+\n)*" for status in (0, 12)},
     "bench": {0: r"bench \d+\nticks \d+\nran \d+\nmet \d+\nlost \d+\ndropped \d+\nouts \d+\nend \d+ trace\n"},
 }
 REFUSED = {"run": (2, 3, 5), "list": (2, 3, 5), "object": (2, 3, 5), "check": (2, 3, 5, 6, 10, 11), "plan": (2, 3, 5, 6, 10), "bench": (2,)}
 REFUSED |= {"replay": (2, 3, 5, 6, 7, 8, 9, 10, 11), "image": (2, 3, 5, 6, 7, 8, 9, 10, 11), "uplink": (2, 3, 5, 6, 7, 8, 9, 10, 11, 17)}
+REFUSED |= {"resume": (2, 3, 5, 6, 7, 8, 9, 10, 11, 14), "runobject": (2, 3, 16)}
 # the texts of each command by their statuses; words of no command have one
 WHOLE = {None: {2: re.compile(FAULTS[2].encode())}}
 for command, texts in TEXTS.items():
@@ -87,7 +93,16 @@ for name, example in (("device", "node.toml"), ("trace", "node-trace.csv"), ("ar
         FILES[name] = file.read()
 FILES["link"] = b"step,n\ngrow,4\nsend,0\nsend,0\ndata,1\ndata,0\ndata,0\nack,1\nrestart,0\nack,0\nsend,0\ndata,1\n"
 FORMS = [["run", "source", "100"], ["list", "source"], ["check", "source", "device"], generate.REPLAY]
-FORMS += [["object", "source"], ["plan", "source", "device"], ["image", *generate.REPLAY[1:]], ["uplink", *generate.REPLAY[1:], "link"]]
+FORMS += [["object", "source"], ["plan", "source", "device"], ["image", *generate.REPLAY[1:]]]
+RESUME, RUN_OBJECT = ["resume", *generate.REPLAY[1:], "saved"], ["runobject", "compiled", "100"]
+FORMS += [RESUME, RUN_OBJECT, ["uplink", *generate.REPLAY[1:], "link"]]
+# what the short form tries of each kind of file: all files of one command, and those that others read alone
+SHORT = [(FORMS[-1], place) for place in range(1, 7)] + [(RESUME, 6), (RUN_OBJECT, 1)]
+
+
+def short_or_all(short):
+    """Forms with a place of a file in each."""
+    return SHORT if short else [(words, place) for words in FORMS for place in places(words)]
 
 
 def places(words):
@@ -108,11 +123,22 @@ class Tests:
         self.slowest = (0, "")
         self.files = {}
         self.put(FILES)
+        self.make_files()
 
     def put(self, files):
         """Puts files into the folder, beside those that are there."""
         generate.write(self.folder, files)
         self.files.update(files)
+
+    def make_files(self):
+        """Files that the program itself makes: an image, saved in the first part of the trace, and an object file."""
+        rows = generate.rows_of(FILES["trace"].decode())
+        self.put({"first": generate.trace(generate.cut(rows, 150)).encode()})
+        made = {"saved": ["image", "source", "device", "first", "arrivals", "failures"], "compiled": ["object", "source"]}
+        for name, words in made.items():
+            answer = self.look(f"{words[0]} of the files here", words, 0)
+            FILES[name] = answer.text
+            self.put({name: answer.text})
 
     def tell(self, label, fault, words, answers):
         if fault is None:
@@ -188,6 +214,7 @@ def unreadable(tests, short):
 def odd_words(tests, short):
     """Words of no form, and files that come through a pipe."""
     lists = [[], [""], ["run"], ["run", "source"], ["run", "source", "1", "1"], ["Run", "source", "1"], ["run\n", "source", "1"], ["-h"], ["--version"]]
+    lists += [RESUME[:-1], [*RESUME, "saved"], ["runobject", "compiled"], ["runobject", "compiled", "1000001"], ["runobject", "compiled", "1", "1"]]
     lists += [["list"], ["list", "source", "source"], ["check", "source"], generate.REPLAY[:-1], [*generate.REPLAY, "source"], ["replay"] + [""] * 6]
     lists += [["x" * 100000], ["run"] * 10000, ["list", "\udcff"], ["\udcc3("]]
     for words in lists:
@@ -322,7 +349,7 @@ def refuse_each(tests, words, folder, allocator, told, short):
 
 def damaged(plain):
     """What may be wrong with a file of any kind, by a name."""
-    text = plain.decode()
+    text = plain.decode("latin-1")
     yield "empty", b""
     yield "one NUL", b"\0"
     yield "NULs", b"\0" * 5000
@@ -366,6 +393,8 @@ LONG = {
     "arrivals": (8, b"fault arrivals 0 Long\n"),
     "failures": (9, b"fault fails 0 Long\n"),
     "link": (17, b"fault link 0 Long\n"),
+    "saved": (14, b"fault image Size %d\n" % (FILE_LIMIT + 1)),
+    "compiled": (16, b"fault object Form 0\n"),
 }
 FILLERS = [b"x", b"\n", b'"', b"\0", b"{", b"[", b"(", b",", b" ", b"1", b"-", b"\xff", b"#", b"\r", b"a=1\n", b"[a]\n", b"1,0,0,0\n", b"\n\n1,2,3,4"]
 
@@ -376,18 +405,18 @@ def filled(start, filler, size):
 
 def long_files(tests, short):
     """Files of the greatest length, and of one byte more, behind nothing, behind a good file and behind its first line."""
-    for words in FORMS[-1:] if short else FORMS:
-        for place in places(words):
-            name = words[place]
-            plain = FILES[name]
-            starts = [plain] if short else [b"", plain, plain.split(b"\n")[0] + b"\n"]
-            for filler in FILLERS[:2] if short else FILLERS:
-                for start in starts:
-                    wanted = LONG[name] if name == "source" else None
-                    tests.look_at_file(f"of the most bytes with {filler}", words, place, filled(start, filler, FILE_LIMIT), wanted)
-                tests.look_at_file(f"past the most bytes with {filler}", words, place, filled(plain, filler, FILE_LIMIT + 1), LONG[name])
-            if name == "source" or not short:
-                tests.look(f"{words[0]}, {name} without end", put(words, place, "/dev/zero"), LONG[name])
+    for words, place in short_or_all(short):
+        name = words[place]
+        plain = FILES[name]
+        starts = [plain] if short else [b"", plain, plain.split(b"\n")[0] + b"\n"]
+        for filler in FILLERS[:2] if short else FILLERS:
+            for start in starts:
+                wanted = LONG[name] if name == "source" else None
+                tests.look_at_file(f"of the most bytes with {filler}", words, place, filled(start, filler, FILE_LIMIT), wanted)
+            tests.look_at_file(f"past the most bytes with {filler}", words, place, filled(plain, filler, FILE_LIMIT + 1), LONG[name])
+        if name == "source" or not short:
+            wanted = (14, b"fault image Head 0\n") if name == "saved" else LONG[name]
+            tests.look(f"{words[0]}, {name} without end", put(words, place, "/dev/zero"), wanted)
     for size, wanted in ((SOURCE_LIMIT, (0, b"steps 0\n")), (SOURCE_LIMIT + 1, LONG["source"])):
         tests.look_at_file(f"of {size} bytes", FORMS[0], 1, b" " * size, wanted)
 
@@ -546,12 +575,111 @@ def tables(tests, short):
             tests.look_at_file(f"of {count} rows", words, 3, generate.trace((1, tick % 2, 0, 0) for tick in range(count)).encode(), wanted)
 
 
+def images(tests, short):
+    """Saved images whose head and length are at their limits, and the longest one that there may be."""
+    plain = FILES["saved"]
+    life = sum(row[0] for row in generate.rows_of(FILES["trace"].decode()))
+    cap, log, start = (int(re.search(rf"(?m)^{key} = (\d+)", FILES["device"].decode())[1]) for key in ("cap", "log", "start"))
+    steps = struct.unpack_from("<I", plain, 16 + 64 + 4 + (len(plain) - 80 - 16 * log) // 2 * (plain[16] % 2))[0]
+
+    def look(label, text, wanted=None):
+        refused = (14, b"fault image %s\n" % wanted.encode()) if isinstance(wanted, str) else wanted
+        tests.look_at_file(label, RESUME, 6, text, refused)
+
+    for tick in (0, steps - 1, life, life + 1, 2**31 - 1, 2**31, 2**32 - 1):
+        wanted = f"Tick {tick}" if tick > life else f"Steps {steps}" if tick < steps else None
+        look(f"of tick {tick}", plain[:4] + struct.pack("<I", tick) + plain[8:], wanted)
+    for stored in (0, 1, cap, cap + 1, 2**31, 2**32 - 1):
+        look(f"with {stored} units", plain[:8] + struct.pack("<I", stored) + plain[12:], f"Stored {stored}" if stored > cap else 0)
+    for length in (*range(20), len(plain) - 1, len(plain) + 1, 2 * len(plain)):
+        look(f"of {length} bytes", (plain + plain)[:length], "Head 0" if length < 4 else f"Size {length}")
+    for place in range(16):
+        changed = plain[:place] + bytes([plain[place] ^ 128]) + plain[place + 1 :]
+        look(f"with another byte {place}", changed, "Head 0" if place < 4 else f"Size {len(plain)}" if place > 11 else None)
+    for head in (b"CNI0", b"CNI2", b"cni1", b"CNO1", b"1INC"):
+        look(f"that begins with {head}", head + plain[4:], "Head 0")
+    numbers = [0, 1, 2, 255, 65535, 65536, 2**31 - 1, 2**31, 2**32 - 1]
+    for place in range(16, len(plain) - 3, 64 if short else 4):
+        for number in numbers[:: 4 if short else 1]:
+            look(f"with {number} at {place}", plain[:place] + struct.pack("<I", number) + plain[place + 4 :])
+    # the fresh image of a program with the most words, on a log of the most records; all but its length is right
+    tests.put({"words": b"int a[1023]; int x = 0; task t { x = x + 1; } start t;", "long": re.sub(rb"(?m)^log = \d+", b"log = 1000000", FILES["device"]), "none": b"tick,event,payload\n"})
+    lines = (12 + 4 * 1025 + 63) // 64
+    slot = struct.pack("<III", 0, 0, 2**32 - 1) + bytes(4 * 1024) + struct.pack("<I", 1)
+    whole = b"CNI1" + struct.pack("<III", 0, start, 0) + bytes(64) + slot.ljust(64 * lines, b"\0") + bytes(64 * lines + 16000000)
+    for text, wanted in ((whole, 0), (whole[:-1], (14, b"fault image Size %d\n" % (len(whole) - 1)))):
+        tests.put({"changed": text})
+        tests.look(f"resume, an image of {len(text)} bytes", ["resume", "words", "long", "trace", "none", "failures", "changed"], wanted)
+
+
+def instructions(*lines):
+    """Instructions of an object file, each by its number, a, b and c."""
+    return b"".join(struct.pack("<BBHI", *line) for line in lines)
+
+
+def object_file(words=0, tasks=(), events=(), code=b"", count=None):
+    """An object file with so many words; a task has its posts and its entry, an event the entries of its versions."""
+    text = b"CNO1" + struct.pack("<HBBI", words, len(tasks), len(events), len(code) // 8 if count is None else count) + bytes(4 * words)
+    text += b"".join(struct.pack("<HHI", posts, 0, entry) for posts, entry in tasks)
+    for entries in events:
+        text += bytes([len(entries), 0, 0, 0]) + b"".join(struct.pack("<I", entry) for entry in entries)
+    return text + code
+
+
+def objects(tests, short):
+    """Object files at the limits of their counts, the longest code, and loops that don't end or are nested deep."""
+    push, post, jump, jumpzero, turn, begin, end, out = 0, 26, 18, 19, 20, 21, 22, 27
+
+    def look(label, text, wanted=None):
+        refused = (16, b"fault object %s\n" % wanted.encode()) if isinstance(wanted, str) else wanted
+        tests.look_at_file(label, RUN_OBJECT, 1, text, refused)
+
+    nothing = (0, b"steps 0\n")
+    for words in (0, 1024, 1025, 65535):
+        look(f"with {words} words", object_file(words), nothing if words <= 1024 else "Form 0")
+    for count in (16, 17, 255):
+        tasks = object_file(tasks=[(0, 2 * task) for task in range(count)], code=b"".join(instructions((begin, task, 0, 0), (end, 0, 0, 0)) for task in range(count)))
+        look(f"with {count} tasks", tasks, nothing if count <= 16 else "Form 0")
+        events = object_file(events=[[event] for event in range(count)], code=instructions((end, 0, 0, 0)) * count)
+        look(f"with {count} events", events, nothing if count <= 16 else "Form 0")
+    for count in (0, 1, 4, 5, 255):
+        look(f"with {count} versions", object_file(events=[range(count)], code=instructions((end, 0, 0, 0)) * count), nothing if 1 <= count <= 4 else "Form 0")
+    for posts in (1, 65535):
+        look(f"with {posts} posts", object_file(tasks=[(posts, 0)], code=instructions((begin, 0, 0, 0), (end, 0, 0, 0))), (0, b"steps %d\n" % min(100, 2 * posts)))
+    for count in (59999, 60000, 60001):
+        code = instructions((begin, 0, 0, 0)) + instructions((post, 0, 0, 0)) * (count - 2) + instructions((end, 0, 0, 0))
+        look(f"of {count} instructions", object_file(tasks=[(1, 0)], code=code), (0, b"steps 100\n") if count <= 60000 else "Form 0")
+    for count in (1, 60000, 60001, 2**31, 2**32 - 1):
+        look(f"that says it has {count} instructions", object_file(count=count), "Form 0")
+    for size in range(40):
+        look(f"of {size} bytes", FILES["compiled"][:size], "Form 0")
+    # jumps back over jumps alone, over evaluation alone, and to a test
+    loop = [(begin, 0, 0, 0), (push, 0, 0, 1), (jumpzero, 0, 0, 4), (jump, 0, 0, 1), (end, 0, 0, 0)]
+    look("of an endless task", object_file(tasks=[(1, 0)], code=instructions(*loop)), (0, b"steps 100\n"))
+    look("of an endless section", object_file(tasks=[(1, 0)], code=instructions(*loop[:3], (jump, 0, 0, 3), loop[4])), "Loop 3")
+    chain = [(begin, 0, 0, 0), (push, 0, 0, 1), (jumpzero, 0, 0, 4), (jump, 0, 0, 4), *((jump, 0, 0, place) for place in range(5, 59999)), (end, 0, 0, 0)]
+    look("of a section of jumps", object_file(tasks=[(1, 0)], code=instructions(*chain)), (0, b"steps 3\n"))
+    # turns within turns: each has its counter on the stack
+    for depth in (1, 4, 32, 33):
+        code = [line for level in range(depth) for line in ((push, 0, 0, 1), (turn, 0, 0, 3 * depth - level))]
+        code += [(jump, 0, 0, 2 * level + 1) for level in reversed(range(depth))] + [(end, 0, 0, 0)]
+        look(f"of {depth} turns within each other", object_file(events=[[0]], code=instructions(*code)), nothing if depth <= 32 and 4 * 2**depth < 1000000 else None)
+    # pushes on and on, and the most outputs of a run
+    deep = instructions((begin, 0, 0, 0)) + instructions((push, 0, 0, 1)) * 59997 + instructions((out, 1, 0, 0), (end, 0, 0, 0))
+    look("that pushes on and on", object_file(tasks=[(1, 0)], code=deep), "Stack 34")
+    tests.put({"changed": object_file(tasks=[(1, 0)], code=instructions((begin, 0, 0, 0), (push, 0, 0, 7), (out, 255, 0, 0), (push, 0, 0, 1), (jumpzero, 0, 0, 6), (jump, 0, 0, 1), (end, 0, 0, 0)))})
+    answer = tests.look("runobject with a million steps", ["runobject", "changed", "1000000"], 0)
+    tests.tell("a million steps", None if answer.text.endswith(b"steps 1000000\n") else f"{answer.text[-40:]!r}", ["runobject", "changed", "1000000"], [answer])
+    for word in ("0", "0000000", "1000000", "1000001", "00000001", "-1", "+1", " 1", "1 ", "", "1e3", "\u0661"):
+        wanted = 0 if re.fullmatch("[0-9]{1,7}", word) and int(word) <= 1000000 else (2, b"fault usage\n")
+        tests.look(f"runobject with STEPS {word!r}", ["runobject", "compiled", word], wanted)
+
+
 def hostile_files(tests, short):
-    for words in FORMS[-1:] if short else FORMS:
-        for place in places(words):
-            for label, text in damaged(FILES[words[place]]):
-                tests.look_at_file(label, words, place, text)
-    for part in (long_files, sources, devices, tables):
+    for words, place in short_or_all(short):
+        for label, text in damaged(FILES[words[place]]):
+            tests.look_at_file(label, words, place, text)
+    for part in (long_files, sources, devices, tables, images, objects):
         part(tests, short)
 
 

@@ -100,11 +100,13 @@ class Images:
         self.look(f"{name}, with a byte more", image + b"\0")
         self.look(f"{name}, with a line more", image + bytes(64))
         slots, log = 16 + 64, 16 + 64 + 128 * self.setting.lines
+        tick = struct.unpack_from("<I", image, 4)[0]
+        around = [tick - 1, tick, tick + 1, *(limit + more for limit in (self.setting.life, self.setting.cap, self.setting.log) for more in (0, 1))]
         numbers = [4, 8, *range(slots, log, 4), *range(log, len(image), 4)]
         for place in numbers:
             own = struct.unpack_from("<I", image, place)[0]
-            near = [own - 1, own + 1, own + 2, self.setting.life, self.setting.life + 1, self.setting.cap, self.setting.cap + 1, self.setting.log, self.setting.log + 1]
-            for value in random.sample(near + NUMBERS, min(2 * rounds, len(near + NUMBERS))):
+            near = [own - 1, own + 1, own + 2, *around, *NUMBERS]
+            for value in random.sample(near, min(2 * rounds, len(near))):
                 changed = bytearray(image)
                 struct.pack_into("<I", changed, place, value % 2**32)
                 self.look(f"{name}, number at {place} is {value}", bytes(changed))

@@ -223,6 +223,9 @@ def test_picture_reads_when_records_were_committed(program, folder):
     # where tasks alone were committed so, the boot that finds the record
     report = "commit 10 1 0\nlost 20\nboot 30 2 4\nout 1 5\nout 1 6\nend 50 1 4 trace\n"
     same(made.Report(write(folder, "report.txt", report)).when, [10, 30])
+    # what ran before a saved image has no tick: its start stands for it
+    report = "boot 30 2 0\ncommit 40 4 0\nout 1 5\nran e 0 0 15 16 - before\nout 1 6\nran e 1 0 25 28 40 met\nend 50 1 0 trace\n"
+    same(made.Report(write(folder, "report.txt", report)).when, [16, 16, 40, 40])
 
 
 def test_picture_refuses(program, folder):
