@@ -1,5 +1,5 @@
 -- The committed log of a run.
-use Rattle.std.proofs.Common.{◌≡◌, ℕ, ℤ, pos, ◌≤◌, ◌<◌, List, [], ◌∷◌, length, get_or, replicate, Option, Some, sym, ap, ◌∙◌, subst, arith}
+use Rattle.std.proofs.Common.{◌≡◌, ℕ, ℤ, pos, ◌+◌, ◌≤◌, ◌<◌, List, [], ◌∷◌, length, get_or, replicate, Option, Some, sym, ap, ◌∙◌, subst, arith}
 use Rattle.std.proofs.lemmas.Option.{slice_get-get_or}
 use Rattle.cat_program.specs.Checked.{Checked}
 use Rattle.cat_program.specs.declared.outs.LogEntry.{LogEntry}
@@ -9,11 +9,14 @@ use Rattle.nv_memory.specs.declared.entry.Entry.{Entry}
 use Rattle.nv_memory.specs.declared.entry.Op.{Op}
 use Rattle.nv_memory.specs.declared.entry.Op.TheVariants.{Instr, Emit, Write, Wake, Sleep}
 use Rattle.std.specs.Int.{cast_signed, w32}
+use Rattle.std.specs.List.{range_with_len}
 use Rattle.std.proofs.lemmas.List.{length-map, length-replicate}
+use Rattle.std.proofs.lemmas.List.FromFn.{length-range_with_len}
 use Rattle.nv_memory.specs.Layout.{slot_at, size_of}
 use Rattle.nv_memory.specs.Board.{State, Start, IsSound, image_after, image_by}
 use Rattle.checkpoint_slots.specs.declared.slot.Slot.{Slot}
-use Rattle.checkpoint_slots.specs.Slot.{spelling}
+use Rattle.checkpoint_slots.specs.Numbers.{number_at}
+use Rattle.checkpoint_slots.specs.Slot.{numbers_from, spelling, IsMadeFor}
 use Rattle.checkpoint_slots.specs.Image.{committed_bytes, committed_slot, IsWellFormed}
 use Rattle.nv_log.specs.Record.{record_of, record_bytes, entry_of, EntryFits, IsOf, IsSpelled, IsFound}
 use Rattle.recovery.specs.First.{IsFresh}
@@ -33,6 +36,19 @@ none-first program past fresh =
     ∙ ap (λ (image : List ℕ). (committed_slot past.layout image).len) (sym (image-none past))
     ∙ ap (λ (s : Slot). s.len) fresh.committed.slot_is
     ∙ fresh.first.len
+
+-- what is read back has the layout's shape
+numbers-count : (bytes : List ℕ) (start n : ℕ) → length (numbers_from bytes start n) ≡ n
+numbers-count bytes start n = length-map (range_with_len start n) (number_at bytes) ∙ length-range_with_len start n
+
+pub committed-made : (l : Layout) (image : List ℕ) → IsMadeFor l (committed_slot l image)
+committed-made l image =
+    let bytes : List ℕ = committed_bytes l image in
+    record {
+      words = numbers-count bytes 3 l.words;
+      tasks = numbers-count bytes (3 + l.words) l.tasks;
+      events = numbers-count bytes (3 + l.words + l.tasks) l.events;
+    }
 
 -- a first image has the program's words
 pub fresh-words : (program : Checked) (l : Layout) (image : List ℕ) → IsFresh program l image → l.words ≡ length program.words
