@@ -1,5 +1,5 @@
 -- The committed log of a run.
-use Rattle.std.proofs.Common.{◌≡◌, ℕ, ℤ, pos, ◌≤◌, ◌<◌, List, [], ◌∷◌, length, get_or, replicate, Option, Some, sym, ap, ◌∙◌, subst, arith}
+use Rattle.std.proofs.Common.{◌≡◌, ℕ, ℤ, pos, ◌+◌, ◌≤◌, ◌<◌, List, [], ◌∷◌, length, get_or, replicate, Option, Some, sym, ap, ◌∙◌, subst, arith}
 use Rattle.std.proofs.lemmas.Option.{slice_get-get_or}
 use Rattle.cat_program.specs.Checked.{Checked}
 use Rattle.cat_program.specs.declared.outs.LogEntry.{LogEntry}
@@ -10,10 +10,12 @@ use Rattle.nv_memory.specs.declared.entry.Op.{Op}
 use Rattle.nv_memory.specs.declared.entry.Op.TheVariants.{Instr, Emit, Write, Wake, Sleep}
 use Rattle.std.specs.Int.{cast_signed, w32}
 use Rattle.std.proofs.lemmas.List.{length-map, length-replicate}
+use Rattle.std.proofs.lemmas.List.FromFn.{length-map-range_with_len}
 use Rattle.nv_memory.specs.Layout.{slot_at, size_of}
 use Rattle.nv_memory.specs.Board.{State, Start, IsSound, image_after, image_by}
 use Rattle.checkpoint_slots.specs.declared.slot.Slot.{Slot}
-use Rattle.checkpoint_slots.specs.Slot.{spelling}
+use Rattle.checkpoint_slots.specs.Numbers.{number_at}
+use Rattle.checkpoint_slots.specs.Slot.{spelling, IsMadeFor}
 use Rattle.checkpoint_slots.specs.Image.{committed_bytes, committed_slot, IsWellFormed}
 use Rattle.nv_log.specs.Record.{record_of, record_bytes, entry_of, EntryFits, IsOf, IsSpelled, IsFound}
 use Rattle.recovery.specs.First.{IsFresh}
@@ -33,6 +35,16 @@ none-first program past fresh =
     ∙ ap (λ (image : List ℕ). (committed_slot past.layout image).len) (sym (image-none past))
     ∙ ap (λ (s : Slot). s.len) fresh.committed.slot_is
     ∙ fresh.first.len
+
+-- what is read back has the layout's shape
+pub committed-made : (l : Layout) (image : List ℕ) → IsMadeFor l (committed_slot l image)
+committed-made l image =
+    let bytes : List ℕ = committed_bytes l image in
+    record {
+      words = length-map-range_with_len (number_at bytes) 3 l.words;
+      tasks = length-map-range_with_len (number_at bytes) (3 + l.words) l.tasks;
+      events = length-map-range_with_len (number_at bytes) (3 + l.words + l.tasks) l.events;
+    }
 
 -- a first image has the program's words
 pub fresh-words : (program : Checked) (l : Layout) (image : List ℕ) → IsFresh program l image → l.words ≡ length program.words
@@ -103,8 +115,8 @@ module _ (program : Checked) (past : Past) (r : IsReplayed program past) where
     pub some_is : (image : List ℕ) (e : LogEntry) → image ≡ last_image past → IsFound past.layout program (record_bytes past.layout place image) (Some e) → e ≡ entry_in past place
     some_is image e same is = same_Some e (entry_in past place) (found_is image (Some e) same is)
 
-pub record-is : (headers : List Event) (lists : Lists) (past : Past) (start place : ℕ) (done : Option ℕ) (e : LogEntry) → done ≡ known_at past start place → e ≡ entry_in past place
-    → log_line headers lists done e ≡ record_line headers lists past start place
+pub record-is : (headers : List Event) (lists : Lists) (past : Past) (start place : ℕ) (tick : Option ℕ) (e : LogEntry) → tick ≡ known_at past start place → e ≡ entry_in past place
+    → log_line headers lists tick e ≡ record_line headers lists past start place
 unfolding record_line
-record-is headers lists past start place done e done_is e_is =
-    ap (λ (t : Option ℕ). log_line headers lists t e) done_is ∙ ap (log_line headers lists (known_at past start place)) e_is
+record-is headers lists past start place tick e tick_is e_is =
+    ap (λ (t : Option ℕ). log_line headers lists t e) tick_is ∙ ap (log_line headers lists (known_at past start place)) e_is

@@ -44,7 +44,7 @@ before_line name index version arrived started =
 
 -- of an entry of the log, by the tick at which it was committed, where that is known
 abbrev pub log_line : List Event → Lists → Option ℕ → LogEntry → List ℕ
-log_line headers lists done (Out channel value) = out_line channel value
+log_line headers lists tick (Out channel value) = out_line channel value
 log_line headers lists (Some done) (Ran event version steps start index) =
     ran_line (name_of (slice_get headers event)) index version (arrived_at lists event index) start done (word_of (nat_le done (due_at headers lists event index)))
 log_line headers lists None (Ran event version steps start index) =

@@ -1,4 +1,4 @@
-use Rattle.std.proofs.Common.{ℕ, ◌++◌, List, ap, ◌∙◌, refl, subst, append_assoc}
+use Rattle.std.proofs.Common.{ℕ, ◌++◌, List, length, sym, ap, ◌∙◌, refl, subst, append_assoc}
 use Rattle.std.proofs.lemmas.Result.{err_from_is_err_and}
 use Rattle.cn_base.specs.Pages.{Adds, IsHeld}
 use Rattle.cn_base.specs.PageSums.{adds_cut, adds_on, held_adds}
@@ -6,10 +6,11 @@ use Rattle.cn_base.specs.PageWords.{held_in, sink_in}
 use Rattle.cn_base.specs.TextSums.{cut_behind_held}
 use Rattle.cn_base.specs.Writing.{IsCut}
 use Rattle.checkpoint_slots.specs.declared.slot.Slot.{Slot}
+use Rattle.checkpoint_slots.specs.Slot.{IsMadeFor}
 use Rattle.recovery.specs.Past.{past_of, last_slot}
 use Rattle.cn_report.specs.Outcome.{log_text, end_line, variables_text}
 use Rattle.cn_report.specs.Whole.{outcome_text}
-use Rattle.cn_report.proofs.Records.{image-formed, image-long, slot-is}
+use Rattle.cn_report.proofs.Records.{committed-made, image-formed, image-long, slot-is}
 use Rattle.cn_report.proofs.Texts.{end-is}
 use Rattle.cn_report.proofs.report.add_outcome.Goals as goal
 
@@ -25,6 +26,20 @@ pub add_log-requires-clause-len : goal.add_log-requires-clause-len
 add_log-requires-clause-len g c =
     let slot = slot-is c.args.program.now c.args.layout.now (g.B.Board.start (g.B.Board.origin c.args.board.now)) (g.B.Board.state c.args.board.now) c.requires.sound c.requires.replayed in
     ap (λ (s : Slot). s.len) (c.recover.ensures ∙ slot)
+
+-- what was read back is made for the layout
+pub returns-in_err-add_log-clause-made : goal.returns-in_err-add_log-clause-made
+returns-in_err-add_log-clause-made g c = subst (λ (s : Slot). IsMadeFor c.args.layout.now s) (sym c.recover.ensures) (committed-made c.args.layout.now (g.B.Board.state c.args.board.now).image)
+
+pub returns-in_err-add_end-clause-made : goal.returns-in_err-add_end-clause-made
+returns-in_err-add_end-clause-made g c = subst (λ (s : Slot). IsMadeFor c.args.layout.now s) (sym c.recover.ensures) (committed-made c.args.layout.now (g.B.Board.state c.args.board.now).image)
+
+pub returns-clause-made : goal.returns-clause-made
+returns-clause-made g c = subst (λ (s : Slot). IsMadeFor c.args.layout.now s) (sym c.recover.ensures) (committed-made c.args.layout.now (g.B.Board.state c.args.board.now).image)
+
+pub add_variables-requires : goal.add_variables-requires
+add_variables-requires g c =
+    ap (λ (s : Slot). length s.words) c.recover.ensures ∙ (committed-made c.args.layout.now (g.B.Board.state c.args.board.now).image).words ∙ c.requires.words
 
 pub returns-in_err-add_log-clause-text : goal.returns-in_err-add_log-clause-text
 returns-in_err-add_log-clause-text g c =

@@ -14,4 +14,4 @@ write_resumed-requires-clause-from g c =
     sym (none-first c.args.program.now (past_of c.args.layout.now (g.B.Board.start (g.B.Board.origin c.args.board.now)) (g.B.Board.state c.args.board.now)) c.requires.fresh)
 
 pub write_resumed-requires-clause-kept : goal.write_resumed-requires-clause-kept
-write_resumed-requires-clause-kept g c = c.fresh.ensures c.args.program.now c.args.layout.now (g.B.Board.start (g.B.Board.origin c.args.board.now)).image c.requires.fresh
+write_resumed-requires-clause-kept g c = c.fresh-shadow.ensures c.args.program.now c.args.layout.now (g.B.Board.start (g.B.Board.origin c.args.board.now)).image c.requires.fresh
