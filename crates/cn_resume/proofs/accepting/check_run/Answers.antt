@@ -1,4 +1,4 @@
-use Rattle.std.proofs.Common.{◌≡◌, ◌≢◌, ◌≤◌, ℕ, List, length, sym, ap, ◌∙◌, subst, arith}
+use Rattle.std.proofs.Common.{◌≡◌, ℕ, List, length, sym, ap, ◌∙◌, subst, arith}
 use Rattle.cat_program.specs.declared.outs.LogEntry.{LogEntry}
 use Rattle.cat_eval.specs.Cursor.{state_of}
 use Rattle.reference_run.specs.declared.schedule.Schedule.{Schedule}

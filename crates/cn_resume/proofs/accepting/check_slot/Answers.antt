@@ -1,6 +1,6 @@
-use Rattle.std.proofs.Common.{◌≡◌, ◌≤◌, ◌<◌, ℕ, sym, ap, ◌∙◌, subst, arith}
+use Rattle.std.proofs.Common.{◌<◌, ℕ, sym, ap, ◌∙◌, subst, arith}
 use Rattle.checkpoint_slots.specs.declared.slot.Slot.{Slot}
-use Rattle.checkpoint_slots.specs.Image.{committed_bytes, committed_slot, IsWellFormed, selected_of}
+use Rattle.checkpoint_slots.specs.Image.{committed_bytes, committed_slot, IsWellFormed}
 use Rattle.cn_resume.specs.declared.fault.ImageFault.TheVariants.{BadImage}
 use Rattle.cn_resume.specs.declared.fault.ImageKind.TheVariants as kind
 use Rattle.cn_resume.specs.Stages.{SlotFault, NotFormed, TooManySteps}
