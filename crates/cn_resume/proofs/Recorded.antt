@@ -10,8 +10,12 @@ use Rattle.nv_memory.specs.declared.layout.Layout.{Layout}
 use Rattle.cn_resume.specs.Records.{EachBelow, entries_in, entry_in}
 use Rattle.cn_resume.specs.Fit.{PartsAt}
 
-pub entries_more : (l : Layout) (image : List ℕ) (n : ℕ) → entries_in l image (n + 1) ≡ entries_in l image n ++ entry_in l image n ∷ []
+entries_more : (l : Layout) (image : List ℕ) (n : ℕ) → entries_in l image (n + 1) ≡ entries_in l image n ++ entry_in l image n ∷ []
 entries_more l image n = map-range_with_len_more (entry_in l image) 0 n n (omega arith)
+
+pub entries_with : (l : Layout) (image : List ℕ) (n : ℕ) (es new : List LogEntry) (e : LogEntry) → new ≡ es ++ e ∷ [] → es ≡ entries_in l image n → e ≡ entry_in l image n → new ≡ entries_in l image (n + 1)
+entries_with l image n es new e added before is =
+    added ∙ ap (λ (x : List LogEntry). x ++ e ∷ []) before ∙ ap (λ (x : LogEntry). entries_in l image n ++ x ∷ []) is ∙ sym (entries_more l image n)
 
 pub each_more : (P : ℕ → Type 0) (n : ℕ) → EachBelow P n → P n → EachBelow P (n + 1)
 each_more P n before here k lt =

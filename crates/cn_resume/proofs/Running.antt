@@ -11,7 +11,6 @@ use Rattle.cat_eval.specs.Cursor.{state_of}
 use Rattle.cat_eval.specs.StateValue.{StateValue}
 use Rattle.checkpoint_slots.specs.declared.slot.Slot.{Slot}
 use Rattle.checkpoint_slots.specs.Slot.{variables_of}
-use Rattle.reference_run.specs.declared.schedule.Item.{Item}
 use Rattle.reference_run.specs.declared.schedule.Schedule.{Schedule}
 use Rattle.reference_run.specs.Reference.{Setting, Moment, IsReference, IsEnd, HasFault}
 use Rattle.logged_runs.specs.Own.{items_in, schedule_of}

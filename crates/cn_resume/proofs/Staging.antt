@@ -1,5 +1,5 @@
 -- What is found out about an image decides its conditions one after the other.
-use Rattle.std.proofs.Common.{◌≡◌, ◌≤◌, ◌<◌, ◌+◌, ℕ, List, length, length-drop, Option, Some, None, Result, Ok, Err, refl, sym, ap, ◌∙◌, subst, arith}
+use Rattle.std.proofs.Common.{◌≡◌, ◌≤◌, ◌<◌, ◌+◌, ℕ, List, length, length-drop, Option, Result, Ok, Err, refl, sym, ap, ◌∙◌, subst, arith}
 use Rattle.std.specs.Prelude.{IfErr, OnOk}
 use Rattle.std.specs.Option.{option_and_then}
 use Rattle.std.proofs.lemmas.List.FromFn.{length-map-range_with_len}
@@ -19,7 +19,6 @@ use Rattle.checkpoint_slots.specs.Slot.{IsMadeFor}
 use Rattle.reference_run.specs.Reference.{Setting, IsReference}
 use Rattle.logged_runs.specs.Own.{schedule_of}
 use Rattle.cn_resume.specs.declared.fault.ImageFault.{ImageFault}
-use Rattle.cn_resume.specs.declared.fault.ImageFault.TheVariants.{BadImage, NoMemory}
 use Rattle.cn_resume.specs.declared.fault.ImageKind.TheVariants as kind
 use Rattle.cn_resume.specs.Records.{entries_in, entry_in}
 use Rattle.cn_resume.specs.Fit.{Purpose, HasSize, HoldsBefore, IsFit, IsRefused, purpose_of, tick_in, image_in, slot_in, logged_in, current_in, moment_in, schedule_in}

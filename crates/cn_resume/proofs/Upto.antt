@@ -2,11 +2,11 @@
 use Rattle.std.proofs.Common.{◌≡◌, ℕ, zero, suc, ◌+◌, ◌-◌, ◌≤◌, ◌<◌, nat_le, true, false, Option, Some, None, refl, sym, ap, ◌∙◌, arith, inl, inr}
 use Rattle.std.proofs.lemmas.Bool.{cases_lt}
 use Rattle.std.proofs.lemmas.Bool.Decides.{nat_tests}
-use Rattle.std.specs.Prelude.{option_map, if◌then◌else◌}
+use Rattle.std.specs.Prelude.{option_map}
 use Rattle.std.specs.Option.{option_and_then}
 use Rattle.cat_program.specs.Body.{Body}
 use Rattle.cat_program.specs.Meaning.{TaskStep, task_step_of}
-use Rattle.reference_run.specs.Reference.{Moment, advance, advance_to, after_step, next_moment}
+use Rattle.reference_run.specs.Reference.{Moment, advance, advance_to, after_step}
 
 to_is : (bodies : ℕ → Body) (n : ℕ) (m : Moment) → m.steps ≤ n → advance_to bodies n m ≡ advance bodies (n - m.steps) m
 to_is bodies n m le = let holds : nat_le m.steps n ≡ true = grind (arith, nat_tests) in rw holds refl

@@ -6,9 +6,11 @@ mod fault;
 mod head;
 mod laws;
 mod records;
+mod runs;
 mod saved;
 mod saving;
 mod schedules;
+mod slots;
 
 pub use accepting::accept;
 pub use fault::{ImageFault, ImageKind};

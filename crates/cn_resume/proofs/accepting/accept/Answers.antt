@@ -1,4 +1,4 @@
-use Rattle.std.proofs.Common.{◌≡◌, ◌≤◌, length, subst, arith}
+use Rattle.std.proofs.Common.{subst, arith}
 use Rattle.nv_memory.specs.declared.layout.Layout.{Layout}
 use Rattle.reference_run.specs.Reference.{setting_of}
 use Rattle.cn_resume.specs.Fit.{IsFit, IsRefused, purpose_of}

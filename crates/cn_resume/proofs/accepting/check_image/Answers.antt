@@ -1,11 +1,8 @@
-use Rattle.std.proofs.Common.{◌≡◌, ◌≤◌, ◌<◌, ℕ, List, length, sym, ap, ◌∙◌, subst, arith}
-use Rattle.std.specs.Prelude.{OnOk}
+use Rattle.std.proofs.Common.{List, length, sym, ap, ◌∙◌, subst, arith}
 use Rattle.cat_program.specs.declared.outs.LogEntry.{LogEntry}
-use Rattle.nv_memory.specs.Layout.{size_of}
-use Rattle.checkpoint_slots.specs.declared.slot.Slot.{Slot}
 use Rattle.reference_run.specs.Reference.{IsReference, setting_of}
 use Rattle.logged_runs.specs.Own.{schedule_of}
-use Rattle.cn_resume.specs.Fit.{IsFit, IsRefused, image_in, purpose_of, tick_in}
+use Rattle.cn_resume.specs.Fit.{IsFit, IsRefused, purpose_of}
 use Rattle.cn_resume.specs.Stages.{IsSlotRead, SlotFault, IsLogRead, LogFault, RunFault, said_moment}
 use Rattle.cn_resume.proofs.Staging.{sized, in_life, image_length, size_few, told_of, slot_made, logged_few, on_ok, if_err, slot_refused, after_slot, log_refused, after_log, run_refused, fits}
 use Rattle.cn_resume.proofs.accepting.check_image.Goals as goal

@@ -1,6 +1,6 @@
-use Rattle.std.proofs.Common.{◌≡◌, sym, ap, ◌∙◌, rules}
+use Rattle.std.proofs.Common.{sym, ap, ◌∙◌, rules}
 use Rattle.nv_log.specs.Record.{entry_of, IsSpelled, record_bytes}
-use Rattle.cn_resume.specs.Records.{IsRecord, StartsBefore, entry_in}
+use Rattle.cn_resume.specs.Records.{StartsBefore}
 use Rattle.cn_resume.proofs.records.record.Goals as goal
 
 pub returns-then-starts_before : goal.returns-then-starts_before

@@ -1,10 +1,9 @@
-use Rattle.std.proofs.Common.{◌≡◌, ℕ, List, sym, ap, ◌∙◌, subst}
-use Rattle.cat_program.specs.declared.outs.LogEntry.{LogEntry}
+use Rattle.std.proofs.Common.{ℕ, sym, ◌∙◌, subst}
 use Rattle.cn_resume.specs.declared.fault.ImageFault.TheVariants.{BadImage}
 use Rattle.cn_resume.specs.declared.fault.ImageKind.TheVariants as kind
 use Rattle.cn_resume.specs.Stages.{LogFault}
 use Rattle.cn_resume.proofs.Looking.{bad_record, bad_count}
-use Rattle.cn_resume.proofs.accepting.check_log.Goals as goal
+use Rattle.cn_resume.proofs.slots.check_log.Goals as goal
 
 pub returns-in-Err-clause-refused : goal.returns-in-Err-clause-refused
 returns-in-Err-clause-refused g c =

@@ -1,11 +1,11 @@
-use Rattle.std.proofs.Common.{◌≡◌, ◌≤◌, ◌<◌, ℕ, sym, ap, ◌∙◌, subst, arith}
+use Rattle.std.proofs.Common.{◌<◌, ℕ, sym, ap, ◌∙◌, subst, arith}
 use Rattle.checkpoint_slots.specs.declared.slot.Slot.{Slot}
-use Rattle.checkpoint_slots.specs.Image.{committed_bytes, committed_slot, IsWellFormed, selected_of}
+use Rattle.checkpoint_slots.specs.Image.{committed_bytes, committed_slot, IsWellFormed}
 use Rattle.cn_resume.specs.declared.fault.ImageFault.TheVariants.{BadImage}
 use Rattle.cn_resume.specs.declared.fault.ImageKind.TheVariants as kind
 use Rattle.cn_resume.specs.Stages.{SlotFault, NotFormed, TooManySteps}
 use Rattle.cn_resume.proofs.Looking.{untrue, no_rest}
-use Rattle.cn_resume.proofs.accepting.check_slot.Goals as goal
+use Rattle.cn_resume.proofs.slots.check_slot.Goals as goal
 
 pub returns-then-not-well_formed-clause-refused : goal.returns-then-not-well_formed-clause-refused
 returns-then-not-well_formed-clause-refused g c =

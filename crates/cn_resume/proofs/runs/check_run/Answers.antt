@@ -1,4 +1,4 @@
-use Rattle.std.proofs.Common.{◌≡◌, ◌≢◌, ◌≤◌, ℕ, List, length, sym, ap, ◌∙◌, subst, arith}
+use Rattle.std.proofs.Common.{◌≡◌, ℕ, List, length, sym, ap, ◌∙◌, subst, arith}
 use Rattle.cat_program.specs.declared.outs.LogEntry.{LogEntry}
 use Rattle.cat_eval.specs.Cursor.{state_of}
 use Rattle.reference_run.specs.declared.schedule.Schedule.{Schedule}
@@ -10,7 +10,7 @@ use Rattle.cn_resume.specs.Fit.{PartsAt}
 use Rattle.cn_resume.specs.Stages.{RunFault, NoRoom', said_moment, said_state}
 use Rattle.cn_resume.proofs.Looking.{untrue}
 use Rattle.cn_resume.proofs.Running.{items_few, no_run, entries_differ, ends_so, state_differs}
-use Rattle.cn_resume.proofs.accepting.check_run.Goals as goal
+use Rattle.cn_resume.proofs.runs.check_run.Goals as goal
 
 pub returns-in_default-clause-refused : goal.returns-in_default-clause-refused
 returns-in_default-clause-refused c = λ current rests. NoRoom'

@@ -1,9 +1,9 @@
-use Rattle.std.proofs.Common.{◌≡◌, ◌∙◌, ◌<◌, ◌≤◌, ℕ, length, refl, sym, ap, arith}
+use Rattle.std.proofs.Common.{◌≡◌, ◌∙◌, length, refl, sym, arith}
 use Rattle.std.specs.Prelude.{pos}
 use Rattle.std.specs.Int.{cast_signed, w32}
 use Rattle.std.proofs.lemmas.List.{ext_get_or, length-map}
 use Rattle.checkpoint_slots.specs.Slot.{variables_of}
-use Rattle.cn_resume.proofs.accepting.same_words.Goals as goal
+use Rattle.cn_resume.proofs.runs.same_words.Goals as goal
 
 pub returns : goal.returns
 returns c =
