@@ -1,5 +1,5 @@
 -- Which files are a saved image from which a device can go on, and what is wrong with any other file.
-use Rattle.std.specs.Prelude.{◌≡◌, ◌≢◌, ◌≤◌, ◌<◌, ◌⊎◌, ⊤, ℕ, ◌+◌, min, List, length, take, drop, codes, Option, Some, None, slice_get}
+use Rattle.std.specs.Prelude.{◌≡◌, ◌≢◌, ◌≤◌, ◌<◌, ◌⊎◌, ⊤, ℕ, ◌+◌, min, List, length, take, drop, codes, Option, Some, slice_get}
 use Rattle.std.specs.Option.{option_and_then}
 use Rattle.cat_program.specs.declared.outs.LogEntry.{LogEntry}
 use Rattle.cat_program.specs.Body.{Body}
