@@ -1,27 +1,23 @@
 -- What is said of a saved image for programs that say the same.
-use Rattle.std.proofs.Common.{◌≡◌, ◌<◌, ℕ, ◌⊎◌, inl, inr, List, [], length, take, Option, Some, None, refl, ap, sym, ◌∙◌, subst}
-use Rattle.std.specs.Prelude.{◌≢◌, ◌↔◌, slice_get, unwrap_or}
+use Rattle.std.proofs.Common.{◌≡◌, ◌<◌, ℕ, inl, inr, List, [], length, take, Option, Some, None, refl, ap, sym, ◌∙◌, subst}
+use Rattle.std.specs.Prelude.{◌↔◌, slice_get, unwrap_or}
 use Rattle.std.specs.Option.{option_and_then}
 use Rattle.cat_program.specs.declared.outs.LogEntry.{LogEntry}
 use Rattle.cat_program.specs.declared.outs.LogEntry.TheVariants.{Out, Ran}
-use Rattle.cat_program.specs.Body.{Body}
-use Rattle.cat_program.specs.Checked.{Checked, HasVersion, rest_at}
+use Rattle.cat_program.specs.Checked.{Checked, rest_at}
 use Rattle.cat_program.specs.Meaning.{TaskState}
 use Rattle.nv_memory.specs.declared.layout.Layout.{Layout}
 use Rattle.nv_log.specs.Record.{IsOf}
-use Rattle.reference_run.specs.declared.schedule.Schedule.{Schedule}
 use Rattle.reference_run.specs.Reference.{Setting, Moment, IsReference}
 use Rattle.cn_resume.specs.declared.fault.ImageKind.{ImageKind}
 use Rattle.cn_resume.specs.declared.fault.ImageKind.TheVariants as kind
 use Rattle.cn_resume.specs.declared.fault.ImageFault.{ImageFault}
 use Rattle.cn_resume.specs.declared.fault.ImageFault.TheVariants.{BadImage, NoMemory}
-use Rattle.cn_resume.specs.Records.{EachBelow, IsFirstWithout, IsRecord}
 use Rattle.cn_resume.specs.Fit.{Purpose, purpose_of, slot_in, moment_in, schedule_in, HasPlace, IsRecordIn, HasRun, Holds, IsFit, EndsOtherwise, Fails, IsFirstFault, IsRefused}
-use Rattle.same_program.specs.Same.{IsSame}
 use Rattle.same_program.specs.Alike.{ListIsLike, neither, StateIsLike}
 use Rattle.same_program.specs.Own.{IsOwnList}
 use Rattle.same_runs.specs.Alike.{AreSameSettings, MomentIsLike, AreSamePurposes}
-use Rattle.same_runs.proofs.Given.{SameSteps, Likeness, SamePlaces, OwnLists, OneEnd}
+use Rattle.same_runs.proofs.Given.{SameSteps, Likeness, SamePlaces, OwnLists}
 use Rattle.same_runs.proofs.Runs.{same_turned, reference_like, fault_like, same_runs}
 use Rattle.same_runs.proofs.Lists.{end_own}
 

@@ -1,11 +1,9 @@
 -- The reference runs of settings whose programs say the same.
-use Rattle.std.proofs.Common.{◌≡◌, Bool, true, false, ℕ, zero, suc, ◌+◌, ◌-◌, ◌⊎◌, inl, inr, List, [], ◌∷◌, ◌++◌, reverse, Option, Some, None, refl, ap, sym, ◌∙◌, subst}
+use Rattle.std.proofs.Common.{◌≡◌, Bool, true, false, ℕ, zero, suc, ◌+◌, ◌-◌, inl, inr, List, [], ◌∷◌, ◌++◌, reverse, Option, Some, None, refl, ap, sym, ◌∙◌, subst}
 use Rattle.std.specs.Prelude.{map, take, if◌then◌else◌, nat_le, option_map, slice_index, ◌↔◌}
 use Rattle.std.specs.Option.{option_and_then}
 use Rattle.cat_program.specs.declared.headers.Event.{Event}
-use Rattle.cat_program.specs.declared.outs.LogEntry.{LogEntry}
 use Rattle.cat_program.specs.declared.outs.LogEntry.TheVariants.{Ran}
-use Rattle.cat_program.specs.Body.{Body}
 use Rattle.cat_program.specs.Checked.{body_at, version_at}
 use Rattle.cat_program.specs.Meaning.{Handled, Store, TaskStep, handled}
 use Rattle.cat_program.specs.OutsValue.{entry_of}
@@ -14,9 +12,8 @@ use Rattle.event_arrivals.specs.Next.{IsNext}
 use Rattle.event_arrivals.specs.declared.arrival.Arrival.{Arrival}
 use Rattle.reference_run.specs.declared.schedule.Item.{Item}
 use Rattle.reference_run.specs.declared.schedule.Schedule.{Schedule}
-use Rattle.reference_run.specs.Reference.{Setting, Moment, first_moment, entries_of, after_step, next_moment, advance, advance_to, deadlines_of, done_in, last_start, MayHandle, with_handled, after_item, Leads, IsRun, IsReference, IsBroken, IsShort, HasFault}
-use Rattle.same_program.specs.Same.{IsSame}
-use Rattle.same_program.specs.Alike.{StateIsLike, StepIsLike, no_step, step}
+use Rattle.reference_run.specs.Reference.{Setting, Moment, first_moment, entries_of, after_step, next_moment, advance, advance_to, deadlines_of, done_in, last_start, MayHandle, after_item, Leads, IsRun, IsReference, HasFault}
+use Rattle.same_program.specs.Alike.{StepIsLike, no_step, step}
 use Rattle.same_runs.specs.Alike.{AreSameSettings, MomentIsLike}
 use Rattle.same_runs.proofs.Given.{SameSteps, Likeness, OneEnd}
 
