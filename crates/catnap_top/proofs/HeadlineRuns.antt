@@ -36,7 +36,7 @@ use Rattle.catnap_top.specs.declared.files.ReplayFiles.{ReplayFiles}
 use Rattle.catnap_top.specs.Headline.{KeepsReserve, ShowsRun, past_in, run_of}
 use Rattle.catnap_top.specs.Lives.{Goes, Life, start_point}
 use Rattle.catnap_top.proofs.Behind.{not_before}
-use Rattle.catnap_top.proofs.Ticks.{points_later}
+use Rattle.catnap_top.proofs.Ticks.{points_keep}
 use Rattle.catnap_top.proofs.HeadlineDeadlines.{meets}
 use Rattle.catnap_top.proofs.HeadlineFiles.{PlanFacts}
 use Rattle.catnap_top.proofs.HeadlineText.{ReadsAgain, told_text, shows_text, slot-is, boot-is, commit-is}
@@ -157,6 +157,6 @@ module _ (again : ReadsAgain) (files : ReplayFiles) (chosen : Chosen) (begun : L
             subst (λ most. most ≤ place) many
             (not_before (run_of files chosen) sound handled counted saved.moment first_own life.origin.tick saved.began last.0 event k place _ steps t arrival first_earlier.entries entry comes since))
             (λ before after split.
-            points_later goes.plan (start_point life.origin (begun goes.plan.layout)) before after
-            (subst (λ (cs : List Link). IsLawful goes.plan (start_point life.origin (begun goes.plan.layout)) cs) split goes.lawful));
+            (points_keep goes.plan (start_point life.origin (begun goes.plan.layout)) before after
+            (subst (λ (cs : List Link). IsLawful goes.plan (start_point life.origin (begun goes.plan.layout)) cs) split goes.lawful)).later);
       }
