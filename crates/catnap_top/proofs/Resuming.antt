@@ -82,7 +82,8 @@ starts_saved layouts fit files chosen bytes start life accepted goes_on =
     record {
       saved = can.saved;
       off = refl;
-      is = λ i. record { board = first_state life.origin; work = work_of (committed_slot plan.layout (image i)); dirty = false };
+      clean = refl;
+      work_is = ap (λ (image : List ℕ). work_of (committed_slot plan.layout image)) image;
     }
 
 -- ---- what was prepared

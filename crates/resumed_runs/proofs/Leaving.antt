@@ -12,7 +12,7 @@ use Rattle.cat_program.specs.declared.outs.LogEntry.{LogEntry}
 use Rattle.cat_program.specs.declared.outs.LogEntry.TheVariants.{Out, Ran}
 use Rattle.nv_memory.specs.declared.device.Device.{Device}
 use Rattle.nv_memory.specs.Layout.{size_of}
-use Rattle.nv_memory.specs.Board.{IsSound, Start, State}
+use Rattle.nv_memory.specs.Board.{State}
 use Rattle.cn_base.specs.declared.TheConstants.{MOST_TICKS}
 use Rattle.nv_log.specs.Record.{EntryFits, IsSpelled, entry_of, record_bytes, record_of}
 use Rattle.checkpoint_slots.specs.declared.slot.Slot.{Slot}
@@ -58,7 +58,7 @@ starts_before tick k entries (Ran event version steps start index) before at = b
 
 module _ (read : AreReadAgain) (program : Checked) (device : Device) (arrivals : Lists) (chosen : Chosen) (plan : Plan) (is_plan : IsPlanFor program device arrivals chosen plan)
     (agrees : AgreesWithOne program chosen.versions arrivals) where
-  module _ (board : State) (start : Start) (sound : IsSound start board) (cap : board.cap ≡ device.cap) (few : board.stored < 2 ^ 32) (saved : HasSaved program plan board)
+  module _ (board : State) (in_life : board.tick ≤ board.life) (in_range : board.life ≤ MOST_TICKS) (in_cap : board.stored ≤ device.cap) (saved : HasSaved program plan board)
       (size : length board.image ≡ size_of plan.layout) where
     abbrev P : Purpose
     P = purpose_for program chosen arrivals plan.layout device board.life
@@ -70,7 +70,7 @@ module _ (read : AreReadAgain) (program : Checked) (device : Device) (arrivals :
     is = saved.stands.committed
 
     tick_is : tick_in (saved_bytes board) ≡ board.tick
-    tick_is = tick_again board (let a = sound.in_life in let b = sound.life_in_range in omega arith)
+    tick_is = tick_again board (let a = in_life in let b = in_range in omega arith)
 
     -- ---- what the file says is what the board has committed
 
@@ -114,8 +114,8 @@ module _ (read : AreReadAgain) (program : Checked) (device : Device) (arrivals :
     pub fits : (k : ImageKind) → Holds P (saved_bytes board) k
     fits kind.Head = refl
     fits kind.Size = record { size = (let all = whole board in omega arith); padding = refl }
-    fits kind.Tick = (let tick = tick_is in let in_life = sound.in_life in omega arith)
-    fits kind.Stored = (let stored = stored_again board few in let in_cap = sound.in_cap in omega arith)
+    fits kind.Tick = (let tick = tick_is in let in_life = in_life in omega arith)
+    fits kind.Stored = (let few = device.cap_in_range in let stored = stored_again board (omega arith) in omega arith)
     fits kind.Slot = is.formed
     fits kind.Steps =
         let slot : (slot_in P (saved_bytes board)).steps ≡ v.slot.steps = ap (λ (s : Slot). s.steps) is.slot_is in
@@ -139,7 +139,7 @@ module _ (read : AreReadAgain) (program : Checked) (device : Device) (arrivals :
         let saved : HasSaved program plan board =
         subst (λ (s : State). HasSaved program plan s) leads.leads (ends.saved p leads.chunks set_up begins from.saved leads.takes_time leads.lawful) in
         let long : length board.image ≡ size_of plan.layout = ap (λ (s : State). length s.image) (sym leads.leads) ∙ ends.size p leads.chunks set_up begins leads.lawful ∙ size in
-        fits board leads.start leads.sound leads.cap leads.few saved long
+        fits board leads.in_life leads.life_in_range leads.in_cap saved long
 
     pub fresh : (p : Point) (board : State) → StartsFresh program plan p → LeadsTo device plan p board → IsFit (purpose_for program chosen arrivals plan.layout device board.life) (saved_bytes board)
     fresh p board from leads = leaves p board (starts.fresh p from) (starts.size p from) leads

@@ -1,9 +1,10 @@
 -- Files from which a run goes on, and files that a run leaves.
-use Rattle.std.specs.Prelude.{◌≡◌, ℕ, ◌<◌, ◌^◌, false, List}
+use Rattle.std.specs.Prelude.{◌≡◌, ℕ, ◌≤◌, false, List}
+use Rattle.cn_base.specs.declared.TheConstants.{MOST_TICKS}
 use Rattle.cat_program.specs.Checked.{Checked}
 use Rattle.nv_memory.specs.declared.device.Device.{Device}
 use Rattle.nv_memory.specs.declared.layout.Layout.{Layout}
-use Rattle.nv_memory.specs.Board.{IsSound, Start, State}
+use Rattle.nv_memory.specs.Board.{State}
 use Rattle.event_arrivals.specs.Arrivals.{Lists}
 use Rattle.reference_run.specs.Reference.{setting_of}
 use Rattle.degradation.specs.declared.chosen.Chosen.{Chosen}
@@ -35,16 +36,15 @@ FitImagesBegin =
     IsPlanFor program device arrivals chosen plan → IsFit (purpose_for program chosen arrivals plan.layout device life) file → BeginsWith file board →
     CanGoOn program plan board
 
--- a lawful timeline leads from a point to a sound board, which stores no more than a device does
+-- a lawful timeline leads from a point to a board within its life, which stores no more than a device can
 pub record LeadsTo (device : Device) (plan : Plan) (p : Point) (board : State) : Type 0 where
   pub chunks : List Link
   pub lawful : IsLawful plan p chunks
   pub leads : (point_after p chunks).board ≡ board
   pub takes_time : TakesTime p.board
-  pub start : Start
-  pub sound : IsSound start board
-  pub cap : board.cap ≡ device.cap
-  pub few : board.stored < 2 ^ 32
+  pub in_life : board.tick ≤ board.life
+  pub life_in_range : board.life ≤ MOST_TICKS
+  pub in_cap : board.stored ≤ device.cap
 
 -- the file of a board is fit, wherever a timeline of the plan ended
 pub record SavedImagesFit : Type 0 where
