@@ -53,7 +53,7 @@ after-both p (c ∷ cs) after = after-both c.after cs after
 in_time : (done due : ℕ) → done ≤ due → word_of (nat_le done due) ≡ codes "met"
 in_time done due less = let yes : nat_le done due ≡ true = grind (arith, nat_tests) in ap word_of yes
 
-some_ticks : (device : Device) (kind : Class) → 1 ≤ (cost_of device kind).ticks
+pub some_ticks : (device : Device) (kind : Class) → 1 ≤ (cost_of device kind).ticks
 some_ticks device class.Basic = device.basic.some_ticks
 some_ticks device class.Memory = device.memory.some_ticks
 some_ticks device class.Out = device.out.some_ticks

@@ -32,6 +32,7 @@ pub mod HeadlineText
 pub mod HeadlineDeadlines
 pub mod HeadlineRuns
 pub mod HeadlineAnswer
+pub mod Accepting
 pub mod OneLife
 pub mod Sending
 pub mod OneUplink

@@ -35,4 +35,5 @@ pub mod Course
 pub mod Clauses
 pub mod OneLife
 pub mod OneRest
+pub mod Accepted
 pub mod Headline

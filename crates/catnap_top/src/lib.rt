@@ -38,6 +38,6 @@ mod uplink;
 mod versions;
 
 pub use headline::{replays_show_runs, resumes_show_runs};
-pub use one::{lives_are_one, one_answer, rests_are_one};
+pub use one::{images_are_accepted, lives_are_one, one_answer, rests_are_one};
 pub use status::Status;
 pub use top::catnap;

@@ -4,6 +4,7 @@ ghost use Rattle.std.specs.Prelude.{◌≡◌, ℕ, List};
 ghost use Rattle.catnap_top.specs.Alike.{Agree, AreSameFiles, IsSameProgram};
 ghost use Rattle.cat_program.specs.Checked.{Checked};
 ghost use Rattle.nv_memory.specs.declared.device.Device.{Device};
+ghost use Rattle.catnap_top.specs.Accepted.{ImagesAreAccepted};
 ghost use Rattle.catnap_top.specs.OneLife.{LivesAreOne};
 ghost use Rattle.catnap_top.specs.OneRest.{RestsAreOne};
 ghost use Rattle.catnap_top.specs.Resume.{IsImage};
@@ -35,7 +36,7 @@ use lawful_timeline::starts_belong;
 use nv_memory::layouts_are_numbers;
 use one_timeline::timelines_end_alike;
 use recovery::first_image_is_one;
-use resumed_runs::fit_images_begin;
+use resumed_runs::{fit_images_begin, saved_images_fit};
 use same_program::{one_choice_law, same_code_law, same_program_law, same_steps_law};
 use same_runs::same_images_law;
 
@@ -137,4 +138,17 @@ pub fn one_answer()
     same_steps_law();
     same_code_law();
     one_uplink_text();
+}
+
+/// What a life leaves, as `image` writes it, is a saved image from which the device of the same files can go on.
+pub fn images_are_accepted()
+    ensures { ImagesAreAccepted }
+{
+    checked_law();
+    told_arrivals_are_sound();
+    choices_suit();
+    plans_are_set_up();
+    plans_are_planned();
+    layouts_are_numbers();
+    saved_images_fit();
 }

@@ -1,0 +1,114 @@
+-- What a life leaves is accepted.
+use Rattle.std.proofs.Common.{◌≡◌, ◌≤◌, ◌++◌, ℕ, List, [], append-nil, Ok, Err, refl, sym, ap, ◌∙◌, subst, arith}
+use Rattle.cn_base.specs.declared.TheConstants.{MOST_TICKS}
+use Rattle.board_core.specs.Reached.{first_state}
+use Rattle.board_core.specs.declared.origin.ModelOrigin.{ModelOrigin}
+use Rattle.cn_resume.specs.Fit.{IsFit}
+use Rattle.cn_resume.specs.Saved.{saved_bytes}
+use Rattle.cn_scheduler.specs.Chunks.{IsLawful, Link, point_after}
+use Rattle.cn_scheduler.specs.Point.{Point, Work, work_of}
+use Rattle.checkpoint_slots.specs.Image.{committed_slot}
+use Rattle.degradation.specs.Choice.{supply_of}
+use Rattle.degradation.specs.declared.chosen.Chosen.{Chosen}
+use Rattle.harvest_trace.specs.Timeline.{life_of}
+use Rattle.lawful_timeline.specs.Starting.{StartsFresh, first_work, saved_point}
+use Rattle.lawful_timeline.specs.Working.{IsSetUp}
+use Rattle.nv_memory.specs.Board.{State}
+use Rattle.nv_memory.specs.Laws.{LayoutsAreNumbers}
+use Rattle.nv_memory.specs.declared.device.Device.{Device}
+use Rattle.nv_memory.specs.declared.layout.Layout.{Layout}
+use Rattle.resumed_runs.specs.Files.{BeginsWith, LeadsTo, SavedImagesFit, purpose_for}
+use Rattle.catnap_top.specs.declared.files.ReplayFiles.{ReplayFiles}
+use Rattle.catnap_top.specs.Accepted.{ImagesAreAccepted, IsAccepted}
+use Rattle.catnap_top.specs.Files.{files_in}
+use Rattle.catnap_top.specs.Lives.{Goes, Life, Lives, start_point}
+use Rattle.catnap_top.specs.Look.{fits}
+use Rattle.catnap_top.specs.Resume.{GoesOn, Start, committed_work, purpose_in, start_for, start_in}
+use Rattle.catnap_top.specs.Served.{versions_in}
+use Rattle.catnap_top.proofs.HeadlineDeadlines.{some_ticks}
+use Rattle.catnap_top.proofs.HeadlineFiles.{LowerLaws, is_set_up, tells_files}
+use Rattle.catnap_top.proofs.Resuming.{is_fit, is_start}
+use Rattle.catnap_top.proofs.Ticks.{Keeps, points_keep}
+
+-- ---- where a life leads
+
+module _ (files : ReplayFiles) (chosen : Chosen) (begun : Layout → Work) (life : Life) (goes : Goes files chosen begun life) where
+  keeps : Keeps (first_state life.origin) life.state
+  keeps =
+      subst (λ (s : State). Keeps (first_state life.origin) s) goes.leads
+      (points_keep goes.plan (start_point life.origin (begun goes.plan.layout)) goes.chunks []
+      (subst (λ (cs : List Link). IsLawful goes.plan (start_point life.origin (begun goes.plan.layout)) cs) (sym (append-nil goes.chunks)) goes.lawful))
+
+  life_is : life.state.life ≡ life_of files.trace
+  life_is = keeps.life ∙ ap life_of goes.trace_is
+
+  leads_to : LeadsTo files.device goes.plan (start_point life.origin (begun goes.plan.layout)) life.state
+  leads_to =
+      let o : ModelOrigin = life.origin in
+      let cap : life.state.cap ≡ o.device.cap = keeps.cap in
+      let same : o.device.cap ≡ files.device.cap = ap (λ (d : Device). d.cap) goes.device_is in
+      let stored : life.state.stored ≤ life.state.cap = keeps.in_cap o.in_cap in
+      let range : life.state.life ≡ life_of o.trace = keeps.life in
+      record {
+        chunks = goes.chunks;
+        lawful = goes.lawful;
+        leads = goes.leads;
+        takes_time = some_ticks o.device;
+        in_life = keeps.in_life o.in_life;
+        life_in_range = omega (arith, range, o.life_in_range);
+        in_cap = omega (arith, cap, same, stored);
+      }
+
+-- ---- what it leaves
+
+accepted : (files : ReplayFiles) (chosen : Chosen) (begun : Layout → Work) (life : Life) (goes : Goes files chosen begun life)
+    → IsFit (purpose_for files.program chosen files.arrivals goes.plan.layout files.device life.state.life) (saved_bytes life.state) → IsAccepted files chosen life
+accepted files chosen begun life goes fit =
+    fits (start_for (saved_bytes life.state))
+    (record {
+      l = goes.plan.layout;
+      layout = goes.is_plan.layout_is;
+      verdict = (
+        subst (λ (n : ℕ). IsFit (purpose_for files.program chosen files.arrivals goes.plan.layout files.device n) (saved_bytes life.state)) (life_is files chosen begun life goes) fit,
+        refl,
+      );
+    })
+    refl
+
+module _ (laws : LowerLaws) (layouts : LayoutsAreNumbers) (saved : SavedImagesFit) where
+  fresh_accepted : (files : ReplayFiles) (chosen : Chosen) (life : Life) → (lives : Lives files chosen life) → IsSetUp files.program lives.goes.plan → IsAccepted files chosen life
+  fresh_accepted files chosen life lives up =
+      let goes = lives.goes in
+      let p : Point = start_point life.origin (first_work files.program goes.plan.layout) in
+      accepted files chosen (first_work files.program) life goes
+      (saved.fresh files.program files.device files.arrivals chosen goes.plan p life.state goes.is_plan up (record { fresh = lives.fresh; off = refl; clean = refl; work_is = refl })
+      (leads_to files chosen (first_work files.program) life goes))
+
+  rest_accepted : (files : ReplayFiles) (chosen : Chosen) (image : List ℕ) (start : Start) (life : Life) → start_in files chosen image (Ok start)
+      → (goes_on : GoesOn files chosen start life) → IsSetUp files.program goes_on.goes.plan → IsAccepted files chosen life
+  rest_accepted files chosen image start life looked goes_on up =
+      let goes = goes_on.goes in
+      let same : start ≡ start_for image = is_start layouts files chosen image start looked in
+      let first : State = first_state life.origin in
+      let point : start_point life.origin (committed_work start.image goes.plan.layout) ≡ saved_point goes.plan.layout first =
+      ap (λ (image : List ℕ). start_point life.origin (committed_work image goes.plan.layout)) (sym goes_on.image_is) in
+      accepted files chosen (committed_work start.image) life goes
+      (saved.resumed files.program files.device files.arrivals chosen goes.plan (life_of files.trace) image first life.state goes.is_plan up
+      (is_fit layouts files chosen image start looked goes.plan.layout goes.is_plan.layout_is)
+      (record {
+        off = refl;
+        tick = goes_on.tick_is ∙ ap (λ (s : Start). s.tick) same;
+        image = goes_on.image_is ∙ ap (λ (s : Start). s.image) same;
+      })
+      (subst (λ (p : Point). LeadsTo files.device goes.plan p life.state) point (leads_to files chosen (committed_work start.image) life goes)))
+
+  pub images_are_accepted : ImagesAreAccepted
+  images_are_accepted =
+      record {
+        lives = λ source profile trace arrivals failures files chosen life told served lives.
+            fresh_accepted files chosen life lives
+            (is_set_up laws source arrivals files (tells_files source profile trace arrivals failures files told) chosen lives.goes.plan served lives.goes.is_plan);
+        rests = λ source profile trace arrivals failures image files chosen start life told served looked goes_on.
+            rest_accepted files chosen image start life looked goes_on
+            (is_set_up laws source arrivals files (tells_files source profile trace arrivals failures files told) chosen goes_on.goes.plan served goes_on.goes.is_plan);
+      }
