@@ -6,3 +6,4 @@ pub mod Tasks
 pub mod Fitting
 pub mod Handlers
 pub mod Sections
+pub mod Greatest
