@@ -74,7 +74,7 @@ first_same [] count all = refl
 first_same ([] ∷ versions) count all = absurd (let some = (all 0 [] (omega arith)).0 in omega (arith, some))
 first_same ((entry ∷ entries) ∷ versions) count all = refl
 
-tasks_same : (words tasks : ℕ) (code : CodeValue) → IsVerified words tasks code → All HasVersions code.versions → tasks_in code ≡ versions_begin code
+pub tasks_same : (words tasks : ℕ) (code : CodeValue) → IsVerified words tasks code → All HasVersions code.versions → tasks_in code ≡ versions_begin code
 tasks_same words tasks code v all =
     let low = tasks_within words tasks code v in
     let same = first_same code.versions (length code.instrs) all in

@@ -7,3 +7,4 @@ pub mod Fitting
 pub mod Handlers
 pub mod Sections
 pub mod Greatest
+pub mod Objects
