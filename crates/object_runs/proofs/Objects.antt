@@ -73,14 +73,14 @@ module _ (mode : Mode) (code : CodeValue) where
   rest_by pc outs run None ends = absurd (let none : None ≡ Some run = ends in cc)
   rest_by pc outs run (Some e) ends = (e, refl)
 
+  none_ends : (h : Held) (run : Ended') → until 0 mode code h ≡ Some run → ⊥
+  unfolding until
+  none_ends h run e = let none : None ≡ Some run = e in cc
+
   -- wherever it has come to, the next instruction finds what it needs
   pub finds_each : {h now : Held} → Follows mode code h now → (n : ℕ) (run : Ended') → until n mode code h ≡ Some run → (s : Stepping) × (step_of mode code now ≡ Some s)
   finds_each (Same {h}) n run ends = step_is h n run ends
   finds_each (Further {h} {now} s outs step goes rest) zero run ends = absurd (none_ends h run ends)
-    where
-      none_ends : (g : Held) (r : Ended') → until 0 mode code g ≡ Some r → ⊥
-      unfolding until
-      none_ends g r e = let none : None ≡ Some r = e in cc
   finds_each (Further {h} {now} s outs step goes rest) (suc n) run ends =
       let pc = next_is h (suc n) run ends in
       let more = until_more mode code h pc.0 s pc.1 step n (Some outs) goes in
@@ -100,8 +100,7 @@ pub section_gives : NeverStuck → HaveSums → (o : Object) (h : Held) (pc : �
     → SectionGives o.code h answer new × IsAtRest o new
 section_gives stuck sums o h pc run did answer new r rest next ends did_is after_is answer_is =
     let s = (object_well stuck sums o h r rest).section pc next in
-    let same : s.run ≡ run = some_same s.run run (sym s.is.ends ∙ ends) in
-    (
+    let same : s.run ≡ run = some_same s.run run (sym s.is.ends ∙ ends) in (
       subst (λ z. MatchOption z ((answer ≡ NoStep) × (new ≡ h)) (λ p. (e : Ended') × IsSection o.code h p e × (answer ≡ stepped_of e.did) × (new ≡ e.after))) (sym next)
           (run, record { ends = ends; path = subst (λ (e : Ended'). SectionFrom o.code pc e.path) same s.is.path }, answer_is ∙ ap stepped_of (sym did_is), sym after_is),
       subst (IsAtRest o) after_is (subst (λ (e : Ended'). IsAtRest o e.after) same s.rests),
