@@ -170,7 +170,7 @@ one_answers code (Over none) Enough = refl
 one_answers code (Over none) (Over also) = refl
 one_answers code (Over none) (Goes pc run next ends rest) = absurd (let clash : None ≡ Some pc = sym none ∙ next in cc)
 one_answers code (Goes pc run next ends rest) (Over none) = absurd (let clash : None ≡ Some pc = sym none ∙ next in cc)
-one_answers code (Goes {most} {h} {a} pc run next ends rest) (Goes {answers = b} pc' run' next' ends' rest') =
+one_answers code (Goes {most} {h} {answers = a} pc run next ends rest) (Goes {answers = b} pc' run' next' ends' rest') =
     let same : run' ≡ run = some_same run' run (sym ends' ∙ ends) in
     let tail : a ≡ b = one_answers code rest (subst (λ (e : Ended'). Answers code most e.after b) same rest') in
     ap (λ (e : Ended'). stepped_of e.did ∷ a) (sym same) ∙ ap (λ l. stepped_of run'.did ∷ l) tail
