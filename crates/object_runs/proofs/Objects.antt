@@ -175,5 +175,5 @@ one_answers code (Goes {most} {h} {answers = a} pc run next ends rest) (Goes {an
     let tail : a ≡ b = one_answers code rest (subst (λ (e : Ended'). Answers code most e.after b) same rest') in
     ap (λ (e : Ended'). stepped_of e.did ∷ a) (sym same) ∙ ap (λ l. stepped_of run'.did ∷ l) tail
 
-pub one_run : (o : Object) (most : ℕ) (a b : List Stepped) → Answers o.code most (first_of o) a → Answers o.code most (first_of o) b → a ≡ b
-one_run o most a b p q = one_answers o.code p q
+pub one_run : (code : CodeValue) (most : ℕ) (h : Held) (a b : List Stepped) → Answers code most h a → Answers code most h b → a ≡ b
+one_run code most h a b p q = one_answers code p q
