@@ -6,3 +6,5 @@ pub mod Tasks
 pub mod Fitting
 pub mod Handlers
 pub mod Sections
+pub mod Greatest
+pub mod Objects

@@ -32,11 +32,11 @@ after_plain (i.Jump to) pc e = absurd (let clash : Some to ≡ None = e in cc)
 after_plain _ pc e = refl
 
 -- an instruction that doesn't act goes on to the next place, or is a jump
-jump_or : (x : Instr) → acts x ≡ false → ((to : ℕ) × (x ≡ i.Jump to)) ⊎ ((pc : ℕ) → place_after x pc ≡ pc + 1)
+pub jump_or : (x : Instr) → acts x ≡ false → ((to : ℕ) × (x ≡ i.Jump to)) ⊎ ((pc : ℕ) → place_after x pc ≡ pc + 1)
 jump_or (i.Jump to) e = inl (to, refl)
 jump_or _ e = inr (λ pc. refl)
 
-quiet_end : (x : Instr) → acts x ≡ false → x ≢ i.End
+pub quiet_end : (x : Instr) → acts x ≡ false → x ≢ i.End
 quiet_end x quiet e = let clash : false ≡ true = sym quiet ∙ ap acts e in cc
 
 -- ---- the places behind a jump back

@@ -12,7 +12,7 @@ ghost use Rattle.cn_object.specs.Fitting.{FitsCode};
 ghost use Rattle.cn_object.specs.Verified.{IsVerified};
 ghost use Rattle.object_runs.specs.Bounds.{AreBoundsOf, CostsWithin};
 ghost use Rattle.object_runs.specs.Resting.{IsResting, IsRunnable};
-ghost use Rattle.object_runs.specs.Running.{IsRunOf};
+ghost use Rattle.object_runs.specs.Running.{Answers, IsRunOf};
 ghost use Rattle.object_runs.specs.Whole.{Follows, IsReached, IsStart, RunsWell};
 
 use cn_object::{handler_sums_law, never_stuck_law};
@@ -49,7 +49,8 @@ pub fn costs_within_law()
     handler_sums_law();
 }
 
-/// An object and a count of sections have one run: a law of the definitions.
+/// From a state, and so from the first one of an object, a count of sections has one run: a law of the definitions.
 pub fn one_run_law()
-    ensures { (o : Program) (most : ℕ) (a b : List Answer) → IsRunOf o most a → IsRunOf o most b → a ≡ b }
+    ensures object { (o : Program) (most : ℕ) (a b : List Answer) → IsRunOf o most a → IsRunOf o most b → a ≡ b }
+    ensures state { (code : CodeValue) (most : ℕ) (h : Held) (a b : List Answer) → Answers code most h a → Answers code most h b → a ≡ b }
 {}

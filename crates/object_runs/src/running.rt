@@ -9,7 +9,7 @@ ghost use Rattle.object_runs.specs.Running.{SectionGives};
 use cat_machine::{Did, Working, next, run_section};
 use cat_program::Stepped;
 use cn_base::NoMemory;
-use cn_object::{Object, never_stuck_law};
+use cn_object::{Object, handler_sums_law, never_stuck_law};
 use std::alloc::{AllocError, Global};
 
 // The first state, where only memory may be wanting.
@@ -54,6 +54,7 @@ pub fn section(object: &Object, working: &mut Working) -> Stepped
     ensures rests { IsAtRest object.now working.new }
 {
     never_stuck_law();
+    handler_sums_law();
     match next(&object.code, working) {
         None => Stepped::None,
         Some(_) => {
