@@ -1,12 +1,13 @@
 -- What is read has room, where each byte is one.
-use Rattle.std.proofs.Common.{◌≡◌, ℕ, zero, suc, ◌+◌, ◌*◌, ◌%◌, ◌^◌, ◌<◌, List, [], ◌∷◌, length, drop, refl, ap, Bool, true, false, arith}
+use Rattle.std.proofs.Common.{◌≡◌, ℕ, zero, suc, ◌+◌, ◌*◌, ◌%◌, ◌^◌, ◌<◌, List, [], ◌∷◌, length, get_or, drop, refl, sym, ◌∙◌, ap, subst, Bool, true, false, arith, inl, inr}
 use Rattle.std.specs.Prelude.{FitsSigned, min, slice_index, nat_lt, ◌==◌, if◌then◌else◌}
 use Rattle.std.specs.Prelude.{Vec}
 use Rattle.std.specs.Global.{Global}
 use Rattle.cat_machine.specs.CodeValue.{entries_of}
 use Rattle.std.specs.List.{All}
 use Rattle.std.specs.Int.{w32}
-use Rattle.std.proofs.lemmas.List.{get_or-drop}
+use Rattle.std.proofs.lemmas.Bool.{cases_lt}
+use Rattle.std.proofs.lemmas.List.{get_or-drop, get_or_default}
 use mir.ValLaws as laws
 use Rattle.cat_machine.specs.declared.instr.Instr.{Instr}
 use Rattle.cn_object.specs.declared.parts.Parts.{Parts}
@@ -28,6 +29,14 @@ all_none P k d h = absurd (omega (arith, h))
 pub all_more : {X : Type 0} (P : X → Type 0) (x : X) (xs : List X) → P x → All P xs → All P (x ∷ xs)
 all_more P x xs p h zero d l = p
 all_more P x xs p h (suc k) d l = h k d (omega (arith, l))
+
+-- what holds of the first n items, and of the one behind them
+pub all_upto : {X : Type 0} (P : X → Type 0) (xs : List X) (n : ℕ) (x : X) → n < length xs → get_or xs n x ≡ x → P x → ((k : ℕ) (d : X) → k < n → P (get_or xs k d)) → (k : ℕ) (d : X) → k < n + 1 → P (get_or xs k d)
+all_upto P xs n x within is holds before k d less =
+    elim (cases_lt k n) [
+      | inl lt ↦ before k d lt
+      | inr le ↦ let same : k ≡ n = omega (arith, less, le) in subst P (sym (ap (λ j. get_or xs j d) same ∙ get_or_default xs n d x within ∙ is)) holds
+    ]
 
 numbers_in : (step n : ℕ) (bytes : List ℕ) → AreBytes bytes → All IsPlace (read_numbers step n bytes)
 numbers_in step zero bytes h = all_none IsPlace
