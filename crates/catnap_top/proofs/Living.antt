@@ -120,6 +120,7 @@ module _ (files : ReplayFiles) (before : Prepared) (engine : Engine) (o0 : Model
   replayed' = subst (λ (p : Checked). IsReplayed p before.plan (point_of before.engine s0) end (state_of board)) is.program_is replayed
 
   one_life : Lives files before.chosen (record { layout = before.plan.layout; origin = origin_of board; state = state_of board; end = end })
+  unfolding goes_as
   one_life =
       record {
         goes = goes_as files before.chosen before.plan (origin_of board) (first_work files.program) (point_of before.engine s0) end (state_of board) is.plan

@@ -101,6 +101,7 @@ module _ (code : SameCode) (x y : ReplayFiles) (same : AreSameFiles x y) where
       λ i l. record { words = alike.words i; posts = alike.started i; place = None; len = 0; steps = 0; done = replicate l.events 0 }
 
   lives_same : (c : Chosen) (life : Life) → Lives x c life → Lives y c life
+  unfolding goes_same
   lives_same c life is =
       record {
         goes = goes_same c (first_work x.program) (first_work y.program) life first_same is.goes;

@@ -157,10 +157,10 @@ module _ (files : ReplayFiles) (before : Prepared) (is : IsPrepared files.progra
         module _ (engine : Engine) (board : ModelBoard) (end : End) (same : origin_of board ≡ origin_of b.board)
             (replayed : Ran before.program before.plan (saved_point before.plan.layout (state_of b.board)) end (state_of board))
             (reached : IsReached (origin_of board) (state_of board)) where
-          ended : Resumed
+          abbrev pub ended : Resumed
           ended = record { from = b.from; replayed = record { prepared = record before { engine = engine }; board = board; end = end; shadow = b.shadow } }
 
-          life : Life
+          abbrev pub life : Life
           life = record { layout = before.plan.layout; origin = origin_of board; state = state_of board; end = end }
 
           image_is : (origin_of board).image ≡ start.image

@@ -3,8 +3,9 @@ use Rattle.std.proofs.Common.{◌≡◌, ℕ, ◌+◌, ◌-◌, ◌≤◌, List,
 use Rattle.std.specs.Prelude.{min}
 use Rattle.nv_memory.specs.Board.{IsDone, IsLost, IsOver, State, filled, ticks_of}
 use Rattle.nv_memory.specs.declared.entry.Op.{Op}
-use Rattle.cn_scheduler.specs.Asked.{Ask, Asked, Goes, Limits, Stops}
-use Rattle.cn_scheduler.specs.Chunks.{Does, IsLawful, JobAsks, Early, Late, Link, point_after}
+use Rattle.nv_memory.specs.declared.entry.Op.TheVariants as op
+use Rattle.cn_scheduler.specs.Asked.{Ask, Asked, Limits, Stops, plain}
+use Rattle.cn_scheduler.specs.Chunks.{Does, IsLawful, JobAsks, Early, Late, Link, no_floor, point_after}
 use Rattle.cn_scheduler.specs.Point.{Point}
 use Rattle.cn_scheduler.specs.declared.choice.Choice.{Choice}
 use Rattle.cn_scheduler.specs.declared.choice.Choice.TheVariants.{Job, Section, Checkpoint, Wake, Sleep}
@@ -104,8 +105,8 @@ does_keep : (plan : Plan) (p q : Point) (choice : Choice) (outcome : Chunk) → 
 does_keep plan p q Section outcome is = asked_keep _ _ p.board q.board outcome is.asked
 does_keep plan p q (Job due) outcome is = job_keeps plan p due is.run outcome q.board is.asks
 does_keep plan p q Checkpoint outcome is = asked_keep _ _ p.board q.board outcome is.asked
-does_keep plan p q Wake outcome is = asked_keep _ _ p.board q.board outcome is.asked
-does_keep plan p q Sleep outcome is = asked_keep _ _ p.board q.board outcome is.asked
+does_keep plan p q Wake outcome is = asked_keep (no_floor plan) (plain op.Wake ∷ []) p.board q.board outcome is.asked
+does_keep plan p q Sleep outcome is = asked_keep (no_floor plan) (plain op.Sleep ∷ []) p.board q.board outcome is.asked
 
 -- behind some chunks of a timeline
 pub points_keep : (plan : Plan) (p : Point) (before after : List Link) → IsLawful plan p (before ++ after) → Keeps p.board (point_after p before).board

@@ -201,8 +201,8 @@ impl Fault {
             Fault::Device(fault) => put_profile_fault(sink, fault),
             Fault::Table(table, row, kind) => put_row_fault(sink, table, row, kind),
             Fault::Choice(why) => why.write(sink),
-            Fault::Image(fault) => put_image_fault(sink, fault),
-            Fault::Object(fault) => put_object_fault(sink, fault),
+            Fault::Image(bad) => put_image_fault(sink, bad.kind, bad.at),
+            Fault::Object(bad) => put_object_fault(sink, bad.kind, bad.place),
         }
     }
 }

@@ -55,34 +55,34 @@ fn image_kind_name(kind: ImageKind) -> &'static str
 }
 
 /// Writes the line of an object file's fault.
-pub fn put_object_fault<K: Sink>(sink: &mut K, fault: BadObject) -> Result<(), WriteFail>
-    ensures text { Writes (K.written sink.old) (K.written sink.new) (object_line fault.kind fault.place) result }
+pub fn put_object_fault<K: Sink>(sink: &mut K, kind: Kind, place: u32) -> Result<(), WriteFail>
+    ensures text { Writes (K.written sink.old) (K.written sink.new) (object_line kind place) result }
     ensures cause { HasCause (K.faults sink.old) (K.faults sink.new) result }
 {
     put_line(
         sink,
         &[
             Piece::Text(b"fault object "),
-            Piece::Text(object_kind_name(fault.kind).as_bytes()),
+            Piece::Text(object_kind_name(kind).as_bytes()),
             Piece::Text(b" "),
-            Piece::Number(i128::from(fault.place)),
+            Piece::Number(i128::from(place)),
             Piece::Text(b"\n"),
         ],
     )
 }
 
 /// Writes the line of a saved image's fault.
-pub fn put_image_fault<K: Sink>(sink: &mut K, fault: BadImage) -> Result<(), WriteFail>
-    ensures text { Writes (K.written sink.old) (K.written sink.new) (image_line fault.kind fault.at) result }
+pub fn put_image_fault<K: Sink>(sink: &mut K, kind: ImageKind, at: u64) -> Result<(), WriteFail>
+    ensures text { Writes (K.written sink.old) (K.written sink.new) (image_line kind at) result }
     ensures cause { HasCause (K.faults sink.old) (K.faults sink.new) result }
 {
     put_line(
         sink,
         &[
             Piece::Text(b"fault image "),
-            Piece::Text(image_kind_name(fault.kind).as_bytes()),
+            Piece::Text(image_kind_name(kind).as_bytes()),
             Piece::Text(b" "),
-            Piece::Number(i128::from(fault.at)),
+            Piece::Number(i128::from(at)),
             Piece::Text(b"\n"),
         ],
     )
