@@ -21,7 +21,7 @@ use Rattle.compiled_objects.proofs.Regions.{Whole, Regions, Beside, are_entries}
 use Rattle.compiled_objects.proofs.EachPlace.{InRegion, opened, Each, each}
 use Rattle.compiled_objects.proofs.Lists.{slice_get_left, slice_get_right, slice_get_behind}
 use Rattle.compiled_objects.proofs.Laying.{whole_of, tasks_counted, program_regions}
-use Rattle.compiled_objects.proofs.Lengths.{versions_short}
+use Rattle.compiled_objects.proofs.Lengths.{HandlerPaths, versions_short}
 
 module _ (w : Whole) (rs : Regions w 0 0 (all_entries w.code) (length w.code.instrs)) (posts : w.tasks ≤ w.posts) (counted : length w.code.tasks ≡ w.tasks) where
   abbrev Count : ℕ
@@ -266,6 +266,6 @@ module _ (w : Whole) (rs : Regions w 0 0 (all_entries w.code) (length w.code.ins
     short = short;
   }
 
-pub whole_verified : CodeIsLaidOut → (p : Checked) → IsChecked p → IsVerified (length p.words) (length p.tasks) (code_of p)
-whole_verified laid p checked =
-    all_hold (whole_of p) (program_regions laid p checked) (omega arith) (tasks_counted p) (λ pc lt k h path is. versions_short laid p checked k pc h path is)
+pub whole_verified : CodeIsLaidOut → HandlerPaths → (p : Checked) → IsChecked p → IsVerified (length p.words) (length p.tasks) (code_of p)
+whole_verified laid paths p checked =
+    all_hold (whole_of p) (program_regions laid p checked) (omega arith) (tasks_counted p) (λ pc lt k h path is. versions_short laid paths p checked k pc h path is)
