@@ -24,12 +24,12 @@ pub fn compiled_code_is_verified()
     handler_paths_law();
 }
 
-/// The object file of a checked program is accepted and never refused, and whatever object it is accepted as has the program's
-/// code, first words and started posts: a law of the definitions.
+/// The object file of a checked program is accepted and never refused, and no other object than the program's has this file: its code, first
+/// words and started posts. A law of the definitions.
 pub fn objects_of_programs_are_accepted()
     ensures good { (p : Checked) (bytes : List ℕ) → IsChecked p → IsFileOf (program_object p) bytes → IsGood bytes (program_object p) }
     ensures never { (p : Checked) (bytes : List ℕ) (kind : Rule) (place : ℕ) → IsChecked p → IsFileOf (program_object p) bytes → ¬ IsBad bytes kind place }
-    ensures same { (p : Checked) (bytes : List ℕ) (o : Program) → IsFileOf (program_object p) bytes → IsGood bytes o → (o.code ≡ code_of p) × (o.words ≡ p.words) × (o.started ≡ p.started) }
+    ensures same { (p : Checked) (bytes : List ℕ) (o : Program) → IsFileOf (program_object p) bytes → IsGood bytes o → o ≡ program_object p }
 {
     compiled_code_is_verified();
     one_object_law();

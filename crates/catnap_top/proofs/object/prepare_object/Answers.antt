@@ -1,4 +1,4 @@
-use Rattle.std.proofs.Common.{Ok, ap}
+use Rattle.std.proofs.Common.{Ok, sym, ap}
 use Rattle.catnap_top.specs.Object.{compiling, filed}
 use Rattle.catnap_top.specs.Reply.{reply_answer}
 use Rattle.catnap_top.specs.Look.{goes}
@@ -12,4 +12,4 @@ returns-in_err-program-clause-looks c =
 
 pub returns-clause-looks : goal.returns-clause-looks
 returns-clause-looks c =
-    goes c.in_ok-program.program c.in_ok-program.ensures (ap (λ bytes. Ok (filed bytes)) c.in_ok-file.ensures)
+    goes c.in_ok-program.program c.in_ok-program.ensures (ap (λ bytes. Ok (filed bytes)) (sym c.in_ok-file.ensures.spelled))
