@@ -1,8 +1,7 @@
 -- The object file of a checked program.
-use Rattle.std.proofs.Common.{◌≡◌, ℕ, List, length, sym, ap, subst}
+use Rattle.std.proofs.Common.{ℕ, List, length, sym, subst}
 use Rattle.cat_program.specs.Checked.{Checked, IsChecked}
 use Rattle.cat_machine.specs.Code.{code_of}
-use Rattle.cn_object.specs.declared.object.Object.{Object}
 use Rattle.cn_object.specs.Spelling.{IsFileOf, program_object}
 use Rattle.cn_object.specs.Verdict.{IsGood}
 use Rattle.cn_object.specs.Verified.{IsVerified}

@@ -15,7 +15,7 @@ use Rattle.cn_object.specs.Verified.{ShortAt, IsVerified}
 use Rattle.compiled_objects.proofs.Stretches.{depth_at}
 use Rattle.compiled_objects.proofs.Flows.{some_same, IsFirst, IsLater}
 use Rattle.compiled_objects.proofs.Places.{no_task}
-use Rattle.compiled_objects.proofs.Regions.{Whole, Regions, Beside, are_entries}
+use Rattle.compiled_objects.proofs.Regions.{Whole, Regions, are_entries}
 use Rattle.compiled_objects.proofs.EachPlace.{opened, Each, each}
 use Rattle.compiled_objects.proofs.Lists.{slice_get_left, slice_get_right, slice_get_behind}
 use Rattle.compiled_objects.proofs.Laying.{whole_of, tasks_counted, program_regions}
