@@ -30,7 +30,14 @@ fn has_room(instr: Instr)
         Instr::Load(_word) | Instr::Store(_word) => {}
         Instr::Jump(_to) | Instr::JumpZero(_to) | Instr::Turn(_to) => {}
         Instr::Begin(_task) | Instr::Post(_task) => {}
-        Instr::LoadAt { base: _base, len: _len } | Instr::StoreAt { base: _base, len: _len } => {}
+        Instr::LoadAt {
+            base: _base,
+            len: _len,
+        }
+        | Instr::StoreAt {
+            base: _base,
+            len: _len,
+        } => {}
         Instr::Out(_channel) => {}
         _ => {}
     }

@@ -6,7 +6,7 @@ use Rattle.cat_program.specs.Declares.{EachEventIs}
 use Rattle.cat_program.specs.Body.{Body, tree_of}
 use Rattle.cat_program.specs.Places.{tasks_size}
 use Rattle.cat_program.specs.Checked.{Checked, IsChecked, bodies_of, versions_of}
-use Rattle.cat_machine.specs.CodeValue.{CodeValue, versions_at}
+use Rattle.cat_machine.specs.CodeValue.{versions_at}
 use Rattle.cat_machine.specs.Code.{tasks_code, events_code, events_entries, code_of}
 use Rattle.cat_machine.specs.LaidOut.{CodeIsLaidOut}
 use Rattle.cost_bounds.specs.Pass.{tasks_in}
@@ -53,20 +53,12 @@ mapped_length : {A B : Type 0} (g : A → B) (xs : List A) → length (map g xs)
 mapped_length g [] = refl
 mapped_length g (x ∷ xs) = ap suc (mapped_length g xs)
 
-no_version : (versions : List (List ℕ)) → length versions ≡ 0 → slice_get (unwrap_or (slice_get versions 0) []) 0 ≡ None
-no_version [] e = refl
-no_version (entries ∷ versions) e = absurd (omega (arith, e))
-
 -- an event has a version
 pub end_somewhere : (p : Checked) → IsChecked p → 0 < length (code_of p).versions → slice_get (versions_at (code_of p) 0) 0 ≡ None → ⊥
 end_somewhere p checked some none =
     let at = tasks_size (bodies_of p) in
     let long = ap length (program_versions p) ∙ entries_length (versions_of p) at ∙ mapped_length (λ (event : List ℕ). map (tree_of p.blocks) event) p.events in
     none_at (tree_of p.blocks) p.headers p.events at checked.declares (omega (arith, some, long)) (ap (λ l. slice_get (unwrap_or (slice_get l 0) []) 0) (sym (program_versions p)) ∙ none)
-
--- without events there is no first version
-pub no_first_version : (code : CodeValue) → length code.versions ≡ 0 → slice_get (versions_at code 0) 0 ≡ None
-no_first_version code e = no_version code.versions e
 
 -- the tasks' code of a program ends where the first version begins
 pub tasks_end : CodeIsLaidOut → (p : Checked) → IsChecked p → tasks_in (code_of p) ≡ tasks_size (bodies_of p)

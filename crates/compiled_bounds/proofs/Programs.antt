@@ -1,56 +1,18 @@
 -- The greatest sums over the paths of a program's code.
-use Rattle.std.proofs.Common.{◌≡◌, ℕ, zero, suc, ◌+◌, ◌<◌, ◌≤◌, List, [], ◌∷◌, length, Some, refl, ap, subst, arith, inl, inr}
-use Rattle.std.specs.Prelude.{slice_get, ◌⊎◌}
+use Rattle.std.proofs.Common.{◌≡◌, ℕ, ◌+◌, ◌≤◌, List, [], ◌∷◌, length, Some, refl, ap, subst, arith, inl}
+use Rattle.std.specs.Prelude.{slice_get}
 use Rattle.cat_program.specs.declared.syntax.Class.TheVariants.{Basic}
 use Rattle.cat_program.specs.Body.{Body}
 use Rattle.cat_program.specs.Places.{body_size, tasks_size}
 use Rattle.cat_program.specs.Checked.{Checked, IsChecked, bodies_of, versions_of, version_at}
 use Rattle.cat_machine.specs.declared.instr.Instr.TheVariants as i
 use Rattle.cat_machine.specs.CodeValue.{CodeValue, EntryAt}
-use Rattle.cat_machine.specs.Code.{body_code, tasks_code, events_code, events_entries, code_of}
-use Rattle.cat_machine.specs.Costs.{Costs, tasks_most, handler_most}
+use Rattle.cat_machine.specs.Code.{body_code, events_entries, code_of}
+use Rattle.cat_machine.specs.Costs.{Costs, handler_most}
 use Rattle.cat_machine.specs.LaidOut.{HasAt, VersionStands, CodeIsLaidOut}
-use Rattle.cost_bounds.specs.Paths.{IsSection, HandlerFrom, Ends, IsHandler}
+use Rattle.cost_bounds.specs.Paths.{HandlerFrom, Ends, IsHandler}
 use Rattle.cost_bounds.specs.Greatest.{sum_over, IsGreatest}
-use Rattle.compiled_bounds.proofs.TaskPaths.{one_section, Sums, Most, tasks_places}
 use Rattle.compiled_bounds.proofs.HandlerPaths.{Made, at_end, body_comes, body_made}
-
--- ---- sections
-
-pub tasks_stand : CodeIsLaidOut → (p : Checked) → HasAt (code_of p).instrs 0 (tasks_code 0 0 (bodies_of p))
-unfolding code_of
-tasks_stand laid p = laid.stands.all (tasks_code 0 0 (bodies_of p)) [] (events_code (tasks_size (bodies_of p)) (versions_of p))
-
-pub section_greatest : CodeIsLaidOut → (u : Costs) (p : Checked) → IsChecked p → IsGreatest (IsSection p) (sum_over u p) (tasks_most u (bodies_of p))
-section_greatest laid u p checked = record { upper = upper; reached = by_most places.reached }
-  where
-    size : ℕ
-    size = tasks_size (bodies_of p)
-
-    most : ℕ
-    most = tasks_most u (bodies_of p)
-
-    places : Most u (code_of p) 0 (0 + size) most
-    places = tasks_places u (code_of p) laid (length p.words) (length p.tasks) (bodies_of p) 0 0 (tasks_stand laid p) checked.tasks_work
-
-    upper : (path : List ℕ) → IsSection p path → sum_over u p path ≤ most
-    upper path s =
-        let r = places.each s.from (omega arith) (omega (arith, s.within)) in
-        let same = one_section (code_of p) s.from path r.1.path s.is r.1.is in
-        omega (arith, ap (sum_over u p) same, r.1.sums, r.2)
-
-    Reached : Type 0
-    Reached = ((path : List ℕ) × IsSection p path × (sum_over u p path ≡ most)) ⊎ (((path : List ℕ) → IsSection p path → ⊥) × (most ≡ 0))
-
-    by_size : most ≡ 0 → (n : ℕ) → size ≡ n → Reached
-    by_size none zero e = inr (λ path s. absurd (omega (arith, s.within, e)), none)
-    by_size none (suc n) e =
-        let r = places.each 0 (omega arith) (omega (arith, e)) in
-        inl (r.1.path, record { from = 0; within = omega (arith, e); is = r.1.is }, omega (arith, r.1.sums, r.2, none))
-
-    by_most : (((pc : ℕ) × (0 ≤ pc) × (pc < 0 + size) × Sums u (code_of p) pc most) ⊎ (most ≡ 0)) → Reached
-    by_most (inl r) = inl (r.3.path, record { from = r.0; within = omega (arith, r.2); is = r.3.is }, r.3.sums)
-    by_most (inr none) = by_size none size refl
 
 -- ---- handlers
 

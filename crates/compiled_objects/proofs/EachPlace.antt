@@ -1,18 +1,18 @@
 -- What holds at each place of code that is one region after another.
-use Rattle.std.proofs.Common.{◌≡◌, ℕ, zero, suc, ◌+◌, ◌-◌, ◌<◌, ◌≤◌, ◌⊎◌, inl, inr, Bool, true, false, List, [], ◌∷◌, length, refl, sym, ap, ◌∙◌, subst, arith}
+use Rattle.std.proofs.Common.{◌≡◌, ℕ, ◌+◌, ◌-◌, ◌<◌, ◌≤◌, ◌⊎◌, inl, inr, Bool, true, false, length, refl, sym, ap, ◌∙◌, subst, arith}
 use Rattle.std.specs.Prelude.{Some, None, slice_get}
 use Rattle.std.proofs.lemmas.Bool.{cases_lt}
 use Rattle.std.proofs.lemmas.Option.{slice_get_within}
 use Rattle.cat_machine.specs.declared.instr.Instr.{Instr}
 use Rattle.cat_machine.specs.declared.instr.Instr.TheVariants as i
-use Rattle.cn_object.specs.Loops.{TurnsAt, IsBetween}
-use Rattle.cn_object.specs.Regions.{all_entries, IsEntry}
-use Rattle.cn_object.specs.Depths.{way, on_way, ways_of}
-use Rattle.compiled_objects.proofs.Stretches.{Setting, At, depth_at}
-use Rattle.compiled_objects.proofs.Flows.{some_same, D, depth_next, lies, inside, IsOpen, Reached, IsFirst, IsLater, stretch_reach}
-use Rattle.compiled_objects.proofs.Places.{PlaceIs, InStretch, is_inner, one_way, Context}
+use Rattle.cn_object.specs.Loops.{TurnsAt}
+use Rattle.cn_object.specs.Regions.{all_entries}
+use Rattle.cn_object.specs.Depths.{way, on_way}
+use Rattle.compiled_objects.proofs.Stretches.{Setting}
+use Rattle.compiled_objects.proofs.Flows.{D, depth_next, inside, Reached, IsFirst, IsLater, stretch_reach}
+use Rattle.compiled_objects.proofs.Places.{PlaceIs, is_inner, one_way, Context}
 use Rattle.compiled_objects.proofs.Visits.{places}
-use Rattle.compiled_objects.proofs.Regions.{Whole, in_region, Opens, IsRegion, Regions, region_lies, Beside, Found, find}
+use Rattle.compiled_objects.proofs.Regions.{Whole, in_region, Opens, Regions, region_lies, Beside, Found, find}
 
 -- the two ways in which a region may begin
 abbrev Begins : Whole → ℕ → ℕ → ℕ → Type 0
@@ -48,8 +48,8 @@ module _ (w : Whole) (rs : Regions w 0 0 (all_entries w.code) (length w.code.ins
   begin_there : (pc : ℕ) (f : InRegion pc) (q : ℕ) → f.low ≤ q → q < f.region.first → (0 + f.j < w.tasks) × (q ≡ f.low) × (f.region.first ≡ f.low + 1) × (slice_get w.code.instrs q ≡ Some (i.Begin (0 + f.j))) × (f.region.task ≡ true)
   begin_there pc f q low lt = elim (opened pc f) [
     | inl o ↦ (let first : f.region.first ≡ f.low + 1 = o.1.1 in
-      let same : q ≡ f.low = omega (arith, low, lt, first) in
-      (o.1.0, same, first, ap (slice_get w.code.instrs) same ∙ o.1.2, o.0))
+        let same : q ≡ f.low = omega (arith, low, lt, first) in
+        (o.1.0, same, first, ap (slice_get w.code.instrs) same ∙ o.1.2, o.0))
     | inr o ↦ absurd (let first : f.region.first ≡ f.low = o.2 in omega (arith, low, lt, first))
   ]
 

@@ -1,15 +1,14 @@
 -- How stretches of code lie, and what goes through them.
-use Rattle.std.proofs.Common.{◌≡◌, ℕ, zero, suc, ◌+◌, ◌-◌, ◌<◌, ◌≤◌, ◌⊎◌, inl, inr, Bool, true, false, List, [], ◌∷◌, length, refl, sym, ap, ◌∙◌, subst, arith, add-one}
-use Rattle.std.specs.Prelude.{Option, Some, None, slice_get, pos, nat_le, if◌then◌else◌}
+use Rattle.std.proofs.Common.{◌≡◌, ℕ, ◌+◌, ◌-◌, ◌<◌, ◌≤◌, inl, inr, Bool, true, false, [], ◌∷◌, refl, sym, ap, ◌∙◌, subst, arith, add-one}
+use Rattle.std.specs.Prelude.{Some, slice_get, pos, if◌then◌else◌}
 use Rattle.std.proofs.lemmas.Bool.{cases_lt}
 use borrow.Author.Tests.{le-leb, lt-leb}
 use Rattle.cat_machine.specs.declared.instr.Instr.{Instr}
 use Rattle.cat_machine.specs.declared.instr.Instr.TheVariants as i
 use Rattle.cn_object.specs.Loops.{TurnsAt}
 use Rattle.cn_object.specs.Regions.{IsEntry}
-use Rattle.cn_object.specs.declared.depth.Way.{Way}
 use Rattle.cn_object.specs.Depths.{taken, given, way, on_way, ways_of, LeadsTo}
-use Rattle.compiled_objects.proofs.Stretches.{Setting, At, is_plain, Suits, Plains, Same, Next, Stretch, Done, Then, Tests, Chooses, Loops, Turns, depth_after, depth_at}
+use Rattle.compiled_objects.proofs.Stretches.{Setting, At, is_plain, Plains, Same, Next, Stretch, Done, Then, Tests, Chooses, Loops, Turns, depth_after, depth_at}
 
 pub some_same : {X : Type 0} (x y : X) → Some x ≡ Some y → x ≡ y
 some_same x y e = cc

@@ -1,6 +1,5 @@
 -- The code of a program is one region after another.
-use Rattle.std.proofs.Common.{◌≡◌, ℕ, zero, suc, ◌+◌, ◌<◌, ◌≤◌, Bool, true, false, List, [], ◌∷◌, ◌++◌, length, refl, sym, ap, ◌∙◌, subst, arith, append-nil}
-use Rattle.std.specs.Prelude.{Some, slice_get, map}
+use Rattle.std.proofs.Common.{◌≡◌, ℕ, suc, ◌+◌, ◌≤◌, true, false, List, [], ◌∷◌, ◌++◌, length, refl, ap, ◌∙◌, subst, arith, append-nil}
 use Rattle.std.specs.List.{flat_map}
 use Rattle.std.proofs.lemmas.List.{length-map, length-append}
 use Rattle.cat_program.specs.Body.{Body, tree_of}
@@ -10,7 +9,7 @@ use Rattle.cat_machine.specs.declared.instr.Instr.{Instr}
 use Rattle.cat_machine.specs.declared.instr.Instr.TheVariants as i
 use Rattle.cat_machine.specs.Code.{body_code, task_code, tasks_code, tasks_entries, versions_code, versions_entries, events_code, events_entries, code_of}
 use Rattle.cat_machine.specs.LaidOut.{HasAt, CodeIsLaidOut}
-use Rattle.cn_object.specs.Regions.{all_entries, version_entries}
+use Rattle.cn_object.specs.Regions.{all_entries}
 use Rattle.compiled_objects.proofs.Bodies.{task_stretch, event_stretch}
 use Rattle.compiled_objects.proofs.Regions.{Whole, IsRegion, in_region, Regions, NoMore, Another, join_regions}
 

@@ -9,3 +9,4 @@ pub mod EachPlace
 pub mod Lists
 pub mod Lengths
 pub mod Whole
+pub mod Files

@@ -1,16 +1,16 @@
 -- What holds at each place of a stretch of code.
-use Rattle.std.proofs.Common.{◌≡◌, ℕ, zero, suc, ◌+◌, ◌-◌, ◌<◌, ◌≤◌, ◌⊎◌, inl, inr, Bool, true, false, List, [], ◌∷◌, length, refl, sym, ap, ◌∙◌, subst, arith}
-use Rattle.std.specs.Prelude.{Option, Some, None, slice_get, pos, ◌↔◌}
+use Rattle.std.proofs.Common.{◌≡◌, ℕ, zero, suc, ◌+◌, ◌-◌, ◌<◌, ◌≤◌, ◌⊎◌, inl, inr, Bool, true, false, [], ◌∷◌, length, refl, sym, ap, ◌∙◌, subst, arith}
+use Rattle.std.specs.Prelude.{Some, None, slice_get, pos, ◌↔◌}
 use Rattle.std.proofs.lemmas.Bool.{cases_lt}
 use Rattle.cat_machine.specs.declared.instr.Instr.{Instr}
 use Rattle.cat_machine.specs.declared.instr.Instr.TheVariants as i
 use Rattle.cost_bounds.specs.Paths.{acts}
 use Rattle.cn_object.specs.Operands.{target_of, HasOperands}
-use Rattle.cn_object.specs.Loops.{ActsSoon, Acts, GoesOn, TurnsAt, IsBetween, IsBackOf, CrossesNone}
+use Rattle.cn_object.specs.Loops.{ActsSoon, TurnsAt, IsBetween, CrossesNone}
 use Rattle.cn_object.specs.declared.depth.Way.{Way}
 use Rattle.cn_object.specs.Depths.{taken, given, way, on_way, ways_of}
-use Rattle.compiled_objects.proofs.Stretches.{Setting, At, is_plain, Suits, Plains, Same, Next, Stretch, Done, Then, Tests, Chooses, Loops, Turns, depth_after, depth_at}
-use Rattle.compiled_objects.proofs.Flows.{some_same, plain_after, plain_ways, D, depth_next, depth_there, plains_lie, lies, plains_flow, test_flow, back_flow, on_flow, Flat, flow, plains_no_turn, other_here, EndsWithin, after_plains, after_one, both_within, inside, opens, IsOpen, plains_open, open_at, Reached, plain_reach, plains_reach, test_reach, zero_reach, jump_reach, turn_reach, inner_reach}
+use Rattle.compiled_objects.proofs.Stretches.{Setting, At, is_plain, Suits, Plains, Same, Next}
+use Rattle.compiled_objects.proofs.Flows.{some_same, plain_after, plain_ways, D, depth_next, Flat, plains_no_turn, EndsWithin, after_plains, opens, IsOpen, Reached, plain_reach}
 
 -- where a jump goes
 pub record MayGo (s : Setting) (pc : ℕ) (x : Instr) (to : ℕ) : Type 0 where
@@ -327,9 +327,9 @@ module _ (s : Setting) (in_code : s.high ≤ length s.code.instrs) where
   plains_places floor depth at end last deep r (Next x e plain suits rest) around pc low high =
       elim (cases_lt at pc) [
         | inl lt ↦ plains_places floor (depth - taken x + given x) (at + 1) end last (depth_next s at x e ∙ plain_after x at (D s at) plain ∙ ap (λ n. n - taken x + given x) deep) (plain_reach s at x e plain) rest
-          (λ q le before. around q (omega (arith, le)) before) pc (omega (arith, lt)) high
+            (λ q le before. around q (omega (arith, le)) before) pc (omega (arith, lt)) high
         | inr le ↦ (let same : at ≡ pc = omega (arith, low, le) in
-          subst (InStretch s) same (plain_place at floor x e plain (subst (λ n. Suits s floor n x) (sym deep) suits) r (around at (omega arith) (omega (arith, same, high)))))
+            subst (InStretch s) same (plain_place at floor x e plain (subst (λ n. Suits s floor n x) (sym deep) suits) r (around at (omega arith) (omega (arith, same, high)))))
       ]
 
   pub within_none : (at end : ℕ) → at ≡ end → EndsWithin s at end

@@ -1,13 +1,12 @@
 -- The regions of code, one after another.
-use Rattle.std.proofs.Common.{◌≡◌, ℕ, zero, suc, ◌+◌, ◌-◌, ◌<◌, ◌≤◌, ◌⊎◌, inl, inr, Bool, true, false, List, [], ◌∷◌, ◌++◌, length, refl, sym, ap, ◌∙◌, subst, arith}
-use Rattle.std.specs.Prelude.{Option, Some, None, slice_get}
+use Rattle.std.proofs.Common.{◌≡◌, ℕ, zero, suc, ◌+◌, ◌<◌, ◌≤◌, ◌⊎◌, inl, inr, Bool, true, false, List, [], ◌∷◌, ◌++◌, length, refl, sym, ap, ◌∙◌, subst, arith}
+use Rattle.std.specs.Prelude.{Some, None, slice_get}
 use Rattle.std.proofs.lemmas.Bool.{cases_lt}
-use Rattle.cat_machine.specs.declared.instr.Instr.{Instr}
 use Rattle.cat_machine.specs.declared.instr.Instr.TheVariants as i
 use Rattle.cat_machine.specs.CodeValue.{CodeValue}
 use Rattle.cn_object.specs.Regions.{AreEntriesOf}
-use Rattle.compiled_objects.proofs.Stretches.{Setting, At, Stretch, depth_at}
-use Rattle.compiled_objects.proofs.Flows.{D, depth_next, lies, flow, some_same}
+use Rattle.compiled_objects.proofs.Stretches.{Setting, Stretch, depth_at}
+use Rattle.compiled_objects.proofs.Flows.{depth_next, lies, flow, some_same}
 
 -- code with its words and posts, and how many regions of it are tasks'
 pub record Whole : Type 0 where

@@ -1,5 +1,5 @@
 -- Stretches of code: what stands from one place up to another, by its form.
-use Rattle.std.proofs.Common.{◌≡◌, ℕ, zero, suc, ◌+◌, ◌-◌, ◌<◌, ◌≤◌, ◌⊎◌, Bool, true, false, List, [], ◌∷◌, length}
+use Rattle.std.proofs.Common.{◌≡◌, ℕ, zero, suc, ◌+◌, ◌-◌, ◌≤◌, Bool, true, false, length}
 use Rattle.std.specs.Prelude.{Option, Some, None, slice_get, pos, nat_le, if◌then◌else◌}
 use Rattle.cat_machine.specs.declared.instr.Instr.{Instr}
 use Rattle.cat_machine.specs.declared.instr.Instr.TheVariants as i

@@ -1,15 +1,15 @@
 -- Each place of a stretch is as it must be.
-use Rattle.std.proofs.Common.{◌≡◌, ℕ, ◌+◌, ◌-◌, ◌<◌, ◌≤◌, ◌⊎◌, inl, inr, Bool, true, false, length, refl, sym, ap, ◌∙◌, subst, arith}
-use Rattle.std.specs.Prelude.{Some, slice_get, pos, ℤ}
+use Rattle.std.proofs.Common.{◌≡◌, ℕ, ◌+◌, ◌-◌, ◌<◌, ◌≤◌, inl, inr, Bool, true, false, length, refl, sym, ap, ◌∙◌, subst, arith}
+use Rattle.std.specs.Prelude.{Some, pos, ℤ}
 use Rattle.std.proofs.lemmas.Bool.{cases_lt}
 use Rattle.cat_machine.specs.declared.instr.Instr.{Instr}
 use Rattle.cat_machine.specs.declared.instr.Instr.TheVariants as i
 use Rattle.cost_bounds.specs.Paths.{acts}
-use Rattle.cn_object.specs.Loops.{ActsSoon, Acts, GoesOn, TurnsAt, CrossesNone}
+use Rattle.cn_object.specs.Loops.{ActsSoon, Acts, GoesOn, TurnsAt}
 use Rattle.cn_object.specs.Depths.{taken, given}
 use Rattle.compiled_objects.proofs.Stretches.{Setting, At, is_plain, Suits, Plains, Same, Next, Stretch, Done, Then, Tests, Chooses, Loops, Turns}
 use Rattle.compiled_objects.proofs.Flows.{D, depth_next, depth_there, plains_lie, lies, plains_flow, test_flow, back_flow, on_flow, Flat, flow, other_here, EndsWithin, after_one, both_within, inside, IsOpen, plains_open, open_at, Reached, plain_reach, plains_reach, test_reach, zero_reach, jump_reach, turn_reach, inner_reach, stretch_reach}
-use Rattle.compiled_objects.proofs.Places.{MayGo, Repeats, GoesBack, InStretch, plain_stays, no_task, Around, Clear, plain_place, zero_place, jump_place, turn_place, no_turn_open, no_begin_open, may_forward, crosses_by, crosses_back, clear_on, around_by, within_none, plains_within, Context, plains_in, part}
+use Rattle.compiled_objects.proofs.Places.{MayGo, Repeats, InStretch, plain_stays, no_task, Clear, plain_place, zero_place, jump_place, turn_place, no_turn_open, no_begin_open, may_forward, crosses_by, crosses_back, clear_on, around_by, within_none, plains_within, Context, plains_in, part}
 
 -- ---- a loop of a task acts soon
 
@@ -205,9 +205,9 @@ module _ (s : Setting) (in_code : s.high ≤ length s.code.instrs) where
           | inr more ↦ inr (more.0, omega (arith, more.1))
         ]
         | inr ge ↦ (let same : other ≡ turn = omega (arith, ge, lt) in
-          let far_is : far ≡ to = its far (subst (λ z. TurnsAt s.code z far) same b) in
-          let deep : D s other ≡ floor + 1 = ap (D s) same ∙ turn_deep in
-          inr (omega (arith, far_is), omega (arith, deep)))
+            let far_is : far ≡ to = its far (subst (λ z. TurnsAt s.code z far) same b) in
+            let deep : D s other ≡ floor + 1 = ap (D s) same ∙ turn_deep in
+            inr (omega (arith, far_is), omega (arith, deep)))
       ] in
       let body_context : C (floor + 1) (turn + 1) jump = record {
         flat = none;
@@ -225,7 +225,7 @@ module _ (s : Setting) (in_code : s.high ≤ length s.code.instrs) where
         forward = λ le. refl;
         only = its;
         crosses = λ task. crosses_back s in_code floor at end turn jump c.clear place (omega (arith, up)) in_body
-        (λ far b. push_no_turn (pos n) far (sym p ∙ b)) its (omega (arith, over));
+            (λ far b. push_no_turn (pos n) far (sym p ∙ b)) its (omega (arith, over));
       } in
       let jump_here = jump_place s in_code jump turn (floor + 1) j room jump_deep turn_deep (stretch_reach s (floor + 1) (turn + 1) jump none body_deep body_context.reached body)
       (around_by s in_code (floor + 1) (turn + 1) jump jump inner over in_body) may (λ le. inr (t, (to, q))) in

@@ -1,27 +1,25 @@
 -- The code of a checked program keeps all rules.
-use Rattle.std.proofs.Common.{◌≡◌, ℕ, zero, suc, ◌+◌, ◌<◌, ◌≤◌, ◌⊎◌, inl, inr, Bool, true, false, List, [], ◌∷◌, ◌++◌, length, refl, sym, ap, ◌∙◌, subst, arith}
-use Rattle.std.specs.Prelude.{Option, Some, None, slice_get, unwrap_or, ◌↔◌}
-use Rattle.std.proofs.lemmas.Bool.{cases_lt}
+use Rattle.std.proofs.Common.{◌≡◌, ℕ, zero, suc, ◌+◌, ◌<◌, ◌≤◌, ◌⊎◌, inl, inr, Bool, true, false, List, [], ◌∷◌, length, refl, sym, ap, ◌∙◌, subst, arith}
+use Rattle.std.specs.Prelude.{Option, Some, None, slice_get, unwrap_or}
 use Rattle.std.proofs.lemmas.Option.{slice_get_within}
 use Rattle.cat_program.specs.Checked.{Checked, IsChecked}
 use Rattle.cat_machine.specs.declared.instr.Instr.{Instr}
 use Rattle.cat_machine.specs.declared.instr.Instr.TheVariants as i
-use Rattle.cat_machine.specs.CodeValue.{CodeValue}
 use Rattle.cat_machine.specs.Code.{code_of}
 use Rattle.cat_machine.specs.LaidOut.{CodeIsLaidOut}
 use Rattle.cn_object.specs.Operands.{target_of, HasOperands, OperandsAt}
 use Rattle.cn_object.specs.Regions.{version_entries, all_entries, IsEntry, SameRegion, IsRegionEnd, versions_begin, SuitsRegion, RegionAt}
 use Rattle.cn_object.specs.Depths.{taken, way, ways_of, LeadsTo, Brings, Enters, Follows, IsDepth, SuitsDepth, StackAt}
-use Rattle.cn_object.specs.Loops.{TurnsAt, GoesTo, IsRepeat, TaskLoopsAt, VersionLoopsAt, LoopsAt}
+use Rattle.cn_object.specs.Loops.{TurnsAt, IsRepeat, TaskLoopsAt, VersionLoopsAt, LoopsAt}
 use Rattle.cn_object.specs.Verified.{ShortAt, IsVerified}
 use Rattle.compiled_objects.proofs.Stretches.{depth_at}
-use Rattle.compiled_objects.proofs.Flows.{some_same, Reached, IsFirst, IsLater}
-use Rattle.compiled_objects.proofs.Places.{MayGo, no_task}
-use Rattle.compiled_objects.proofs.Regions.{Whole, Regions, Beside, are_entries}
-use Rattle.compiled_objects.proofs.EachPlace.{InRegion, opened, Each, each}
+use Rattle.compiled_objects.proofs.Flows.{some_same, IsFirst, IsLater}
+use Rattle.compiled_objects.proofs.Places.{no_task}
+use Rattle.compiled_objects.proofs.Regions.{Whole, Regions, are_entries}
+use Rattle.compiled_objects.proofs.EachPlace.{opened, Each, each}
 use Rattle.compiled_objects.proofs.Lists.{slice_get_left, slice_get_right, slice_get_behind}
 use Rattle.compiled_objects.proofs.Laying.{whole_of, tasks_counted, program_regions}
-use Rattle.compiled_objects.proofs.Lengths.{versions_short}
+use Rattle.compiled_objects.proofs.Lengths.{HandlerPaths, versions_short}
 
 module _ (w : Whole) (rs : Regions w 0 0 (all_entries w.code) (length w.code.instrs)) (posts : w.tasks ≤ w.posts) (counted : length w.code.tasks ≡ w.tasks) where
   abbrev Count : ℕ
@@ -44,9 +42,6 @@ module _ (w : Whole) (rs : Regions w 0 0 (all_entries w.code) (length w.code.ins
 
   -- ---- entries
 
-  entry_beside : (pc : ℕ) (e : E pc) (entry : ℕ) → IsEntry w.code entry → (n : ℕ) × Beside e.f.j e.f.low e.f.high n entry
-  entry_beside pc e entry (n, h) = (n, e.f.beside n entry h)
-
   -- an entry up to a place is up to its region's begin
   entry_side : (pc : ℕ) (e : E pc) (entry : ℕ) → IsEntry w.code entry → (entry ≤ e.f.low) ⊎ (e.f.high ≤ entry)
   entry_side pc e entry h = elim (e.f.beside h.0 entry h.1) [
@@ -67,9 +62,6 @@ module _ (w : Whole) (rs : Regions w 0 0 (all_entries w.code) (length w.code.ins
   entry_task t pc lt h = sym (slice_get_left w.code.tasks (version_entries w.code) t (omega (arith, lt, counted))) ∙ h
 
   -- ---- tasks come first
-
-  some_begin : (o : Option ℕ) (v : ℕ) → o ≡ Some v → unwrap_or o Count ≡ v
-  some_begin o v e = ap (λ q. unwrap_or q Count) e
 
   first_version : (v : ℕ) → slice_get (version_entries w.code) 0 ≡ Some v → slice_get (all_entries w.code) w.tasks ≡ Some v
   first_version v h =
@@ -140,11 +132,11 @@ module _ (w : Whole) (rs : Regions w 0 0 (all_entries w.code) (length w.code.ins
   suits_region pc e = record {
     begins = λ t. (
       λ h. (let b = e.begins t h in
-        let number : e.f.j ≡ t = b.1 in
-        entry_task t pc (omega (arith, number, b.2)) (ap (slice_get (all_entries w.code)) (sym number) ∙ e.f.at ∙ ap Some (sym b.0))),
+          let number : e.f.j ≡ t = b.1 in
+          entry_task t pc (omega (arith, number, b.2)) (ap (slice_get (all_entries w.code)) (sym number) ∙ e.f.at ∙ ap Some (sym b.0))),
       λ h. elim (e.f.beside t pc (task_entry t pc h)) [
         | inl a ↦ (let lt : t < w.tasks = omega (arith, slice_get_within w.code.tasks t pc h, counted) in
-          e.is_begin a.1 (omega (arith, lt, a.0)) ∙ ap i.Begin (sym a.0))
+            e.is_begin a.1 (omega (arith, lt, a.0)) ∙ ap i.Begin (sym a.0))
         | inr b ↦ absurd (elim b [ inl c ↦ omega (arith, c.1, e.f.from) | inr d ↦ omega (arith, d.1, e.f.before) ])
       ],
     );
@@ -198,10 +190,10 @@ module _ (w : Whole) (rs : Regions w 0 0 (all_entries w.code) (length w.code.ins
     acting = λ lt acts. e.is.acting (is_task pc e lt) acts;
     ends = e.is.ends;
     back = λ to h le. (let found : slice_get (ways_of e.x pc (DA pc)) 0 ≡ Some (way to (DA pc)) = ap (λ z. slice_get (ways_of z pc (DA pc)) 0) h in
-      let same = e.is.ways 0 to (DA pc) found in
-      let target : target_of e.x ≡ Some to = ap target_of h in
-      let within : to < Count = omega (arith, (e.is.goes to target).high, e.f.within) in
-      subst (IsDepth w.code to) same (deep_at to within));
+        let same = e.is.ways 0 to (DA pc) found in
+        let target : target_of e.x ≡ Some to = ap target_of h in
+        let within : to < Count = omega (arith, (e.is.goes to target).high, e.f.within) in
+        subst (IsDepth w.code to) same (deep_at to within));
   }
 
   stacks : (pc : ℕ) → pc < Count → StackAt w.code pc
@@ -230,9 +222,9 @@ module _ (w : Whole) (rs : Regions w 0 0 (all_entries w.code) (length w.code.ins
         just_after = r.just_after;
         back = r.back;
         only = λ q goes. (let d = at_place q goes.0 goes.1 in
-          let target : target_of d.x ≡ Some pc = ap target_of (same_instr q goes.0 d goes.1) ∙ goes.2 in
-          let end_is = (d.is.goes pc target).only end h in
-          omega (arith, end_is, r.just_after));
+            let target : target_of d.x ≡ Some pc = ap target_of (same_instr q goes.0 d goes.1) ∙ goes.2 in
+            let end_is = (d.is.goes pc target).only end h in
+            omega (arith, end_is, r.just_after));
       }
 
   version_loops : (pc : ℕ) (e : E pc) → e.f.region.task ≡ false → VersionLoopsAt w.code pc
@@ -244,11 +236,11 @@ module _ (w : Whole) (rs : Regions w 0 0 (all_entries w.code) (length w.code.ins
     ];
     jump = λ to goes. (let target : target_of e.x ≡ Some to = ap target_of (same_instr pc goes.0 e goes.1) ∙ goes.2 in (e.is.goes to target).crosses t);
     above = λ x turn end under depth h turns between low high.
-    (let a : under ≡ DA turn = brought_deep turn under low.brought in
-      let b : depth ≡ DA pc = brought_deep pc depth high.brought in
-      let c : taken e.x ≡ taken x = ap taken (same_instr pc x e h) in
-      let d = e.is.above turn end turns between in
-      omega (arith, a, b, c, d));
+        (let a : under ≡ DA turn = brought_deep turn under low.brought in
+        let b : depth ≡ DA pc = brought_deep pc depth high.brought in
+        let c : taken e.x ≡ taken x = ap taken (same_instr pc x e h) in
+        let d = e.is.above turn end turns between in
+        omega (arith, a, b, c, d));
   }
 
   loops : (pc : ℕ) → pc < Count → LoopsAt w.code pc
@@ -266,6 +258,6 @@ module _ (w : Whole) (rs : Regions w 0 0 (all_entries w.code) (length w.code.ins
     short = short;
   }
 
-pub whole_verified : CodeIsLaidOut → (p : Checked) → IsChecked p → IsVerified (length p.words) (length p.tasks) (code_of p)
-whole_verified laid p checked =
-    all_hold (whole_of p) (program_regions laid p checked) (omega arith) (tasks_counted p) (λ pc lt k h path is. versions_short laid p checked k pc h path is)
+pub whole_verified : CodeIsLaidOut → HandlerPaths → (p : Checked) → IsChecked p → IsVerified (length p.words) (length p.tasks) (code_of p)
+whole_verified laid paths p checked =
+    all_hold (whole_of p) (program_regions laid p checked) (omega arith) (tasks_counted p) (λ pc lt k h path is. versions_short laid paths p checked k pc h path is)

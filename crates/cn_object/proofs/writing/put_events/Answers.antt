@@ -15,6 +15,6 @@ loop-event-preserved c =
     let h : c.loop-event.event < length c.args.code.now.versions = omega (arith, c.loop-event-test.true, c.events-event-end.ensures) in
     let is = version_at_any c.args.code.now.versions c.loop-event.event c.versions-entries.result.now h c.versions-entries.ensures in (
       flat_goes event_bytes c.args.code.now.versions c.loop-event.event c.versions-entries.result.now _ c.loop-event.out.items c.put_event.new.out.items h
-      is c.loop-event.invariant.0 c.in_ok-put_event.ensures.text,
+          is c.loop-event.invariant.0 c.in_ok-put_event.ensures.text,
       all_upto (All IsPlace) c.args.code.now.versions c.loop-event.event c.versions-entries.result.now h is c.in_ok-put_event.ensures.places c.loop-event.invariant.1,
     )

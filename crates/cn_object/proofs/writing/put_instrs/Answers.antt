@@ -10,6 +10,6 @@ loop-pc-preserved c =
     let h : c.loop-pc.pc < length c.args.code.now.instrs = omega (arith, c.loop-pc-test.true, c.len-pc-end.ensures) in
     let is = get_or_from_slice_get c.args.code.now.instrs c.loop-pc.pc c.instr-instr.result _ c.instr-instr.ensures in (
       flat_goes instr_bytes c.args.code.now.instrs c.loop-pc.pc c.instr-instr.result _ c.loop-pc.out.items c.put_instr.new.out.items h
-      is c.loop-pc.invariant.0 c.in_ok-put_instr.ensures.text,
+          is c.loop-pc.invariant.0 c.in_ok-put_instr.ensures.text,
       all_upto HasRoom c.args.code.now.instrs c.loop-pc.pc c.instr-instr.result h is c.put_instr.ensures.room c.loop-pc.invariant.1,
     )
