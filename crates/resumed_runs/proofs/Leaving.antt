@@ -1,11 +1,9 @@
 -- What a run leaves is fit.
-use Rattle.std.proofs.Common.{◌≡◌, ℕ, ◌+◌, ◌<◌, ◌≤◌, ◌^◌, List, length, get_or, map, Some, Option, refl, sym, ap, ◌∙◌, subst, arith}
+use Rattle.std.proofs.Common.{◌≡◌, ℕ, ◌+◌, ◌<◌, ◌^◌, List, length, get_or, Some, refl, sym, ap, ◌∙◌, subst, arith}
 use Rattle.std.specs.Prelude.{slice_get, slice_index, count_by, pos}
-use Rattle.std.specs.List.{range_with_len}
 use Rattle.std.specs.Option.{option_and_then}
 use Rattle.std.proofs.lemmas.Nat.{from_le_bytes-to_le_bytes_4}
 use Rattle.std.proofs.lemmas.List.FromFn.{fill_by_all}
-use Rattle.cat_program.specs.Body.{Body}
 use Rattle.cat_program.specs.Checked.{Checked, rest_at}
 use Rattle.cat_program.specs.Resting.{RestsAt}
 use Rattle.cat_program.specs.declared.outs.LogEntry.{LogEntry}
@@ -13,8 +11,7 @@ use Rattle.cat_program.specs.declared.outs.LogEntry.TheVariants.{Out, Ran}
 use Rattle.nv_memory.specs.declared.device.Device.{Device}
 use Rattle.nv_memory.specs.Layout.{size_of}
 use Rattle.nv_memory.specs.Board.{IsSound, Start, State}
-use Rattle.cn_base.specs.declared.TheConstants.{MOST_TICKS}
-use Rattle.nv_log.specs.Record.{EntryFits, IsSpelled, entry_of, record_bytes, record_of}
+use Rattle.nv_log.specs.Record.{entry_of}
 use Rattle.checkpoint_slots.specs.declared.slot.Slot.{Slot}
 use Rattle.event_arrivals.specs.Arrivals.{Lists}
 use Rattle.recovery.specs.Committed.{Committed, IsCommitted, is_ran}
@@ -24,7 +21,7 @@ use Rattle.image_meaning.specs.Standing.{moment_of}
 use Rattle.degradation.specs.declared.chosen.Chosen.{Chosen}
 use Rattle.cn_scheduler.specs.declared.plan.Plan.{Plan}
 use Rattle.cn_scheduler.specs.Point.{Point}
-use Rattle.lawful_timeline.specs.Working.{IsSetUp, setting_of}
+use Rattle.lawful_timeline.specs.Working.{IsSetUp}
 use Rattle.lawful_timeline.specs.Claims.{Begins}
 use Rattle.lawful_timeline.specs.Points.{BeganBefore}
 use Rattle.lawful_timeline.specs.Ending.{EndsHold, HasSaved}
@@ -35,7 +32,7 @@ use Rattle.cn_resume.specs.declared.fault.ImageKind.TheVariants as kind
 use Rattle.cn_resume.specs.Records.{IsRecord, StartsBefore, entries_in, entry_in}
 use Rattle.cn_resume.specs.Fit.{Holds, IsFit, Purpose, current_in, logged_in, moment_in, slot_in, stored_in, tick_in}
 use Rattle.cn_resume.specs.Saved.{saved_bytes}
-use Rattle.resumed_runs.specs.Files.{BeginsWith, LeadsTo, SavedImagesFit, purpose_for}
+use Rattle.resumed_runs.specs.Files.{BeginsWith, LeadsTo, purpose_for}
 use Rattle.resumed_runs.proofs.Settings.{IsFixed, current_is, own_fixed, there}
 use Rattle.resumed_runs.proofs.Fitting.{AreReadAgain, can_go_on, first_size}
 
