@@ -1,7 +1,6 @@
 -- A run of what was prepared goes on.
-use Rattle.std.proofs.Common.{◌≡◌, ℤ, length, sym, ◌∙◌, subst}
+use Rattle.std.proofs.Common.{◌≡◌, length, sym, ◌∙◌, subst}
 use Rattle.cat_program.specs.Checked.{Checked}
-use Rattle.cat_machine.specs.Code.{code_of}
 use Rattle.nv_memory.specs.declared.device.Device.{Device}
 use Rattle.nv_memory.specs.Board.{IsSound, Start, State}
 use Rattle.cn_scheduler.specs.declared.engine.End.{End}

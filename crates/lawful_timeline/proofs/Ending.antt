@@ -1,9 +1,8 @@
 -- What a timeline leaves to go on from.
-use Rattle.std.proofs.Common.{◌≡◌, inl, inr, ℕ, ◌≤◌, true, false, List, [], ◌∷◌, length, refl, sym, ap, ◌∙◌, subst, arith}
+use Rattle.std.proofs.Common.{◌≡◌, inl, inr, ◌≤◌, true, false, List, [], ◌∷◌, length, refl, sym, ap, ◌∙◌, subst, arith}
 use Rattle.std.specs.Prelude.{◌⊎◌}
 use Rattle.std.proofs.lemmas.Bool.{cases_Bool}
 use Rattle.cat_program.specs.Checked.{Checked}
-use Rattle.nv_memory.specs.Layout.{size_of}
 use Rattle.nv_memory.specs.Board.{State}
 use Rattle.recovery.specs.Committed.{Committed, IsCommitted}
 use Rattle.reference_run.specs.Reference.{Moment}
@@ -11,7 +10,7 @@ use Rattle.image_meaning.specs.Standing.{moment_of}
 use Rattle.image_meaning.specs.Laws.{ImagesStandForOne}
 use Rattle.cn_scheduler.specs.declared.plan.Plan.{Plan}
 use Rattle.cn_scheduler.specs.Point.{Point}
-use Rattle.cn_scheduler.specs.Chunks.{IsChunk, IsLawful, Link, is_last, point_after}
+use Rattle.cn_scheduler.specs.Chunks.{IsLawful, Link, is_last, point_after}
 use Rattle.lawful_timeline.specs.Working.{IsSetUp, setting_of}
 use Rattle.lawful_timeline.specs.Claims.{Begins}
 use Rattle.lawful_timeline.specs.Points.{BeganBefore, TakesTime}

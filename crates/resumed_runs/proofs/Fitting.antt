@@ -1,14 +1,13 @@
 -- From a fit file a run can go on.
-use Rattle.std.proofs.Common.{◌≡◌, ℕ, ◌+◌, ◌-◌, ◌<◌, ◌≤◌, List, length, get_or, drop, length-drop, map, Option, Some, refl, sym, ap, ◌∙◌, subst, arith}
+use Rattle.std.proofs.Common.{◌≡◌, ℕ, ◌-◌, ◌<◌, ◌≤◌, List, length, get_or, drop, length-drop, Option, Some, refl, sym, ap, ◌∙◌, subst, arith}
 use Rattle.std.specs.Prelude.{slice_get}
-use Rattle.std.specs.List.{range_with_len}
 use Rattle.std.proofs.lemmas.List.FromFn.{get_or-map-range_with_len, length-map-range_with_len}
 use Rattle.std.proofs.lemmas.Option.{slice_get_within}
 use Rattle.cat_program.specs.Body.{Body}
 use Rattle.cat_program.specs.Checked.{Checked}
 use Rattle.cat_program.specs.Resting.{RestsAt}
 use Rattle.cat_program.specs.declared.outs.LogEntry.{LogEntry}
-use Rattle.cat_program.specs.declared.outs.LogEntry.TheVariants.{Out, Ran}
+use Rattle.cat_program.specs.declared.outs.LogEntry.TheVariants.{Ran}
 use Rattle.nv_memory.specs.declared.device.Device.{Device}
 use Rattle.nv_memory.specs.declared.layout.Layout.{Layout}
 use Rattle.nv_memory.specs.Layout.{size_of}
@@ -16,7 +15,6 @@ use Rattle.nv_memory.specs.Board.{State}
 use Rattle.nv_log.specs.Record.{EntryFits, IsSpelled, entry_of, record_bytes, record_of}
 use Rattle.event_arrivals.specs.Arrivals.{Lists}
 use Rattle.recovery.specs.Committed.{Committed, IsCommitted}
-use Rattle.reference_run.specs.Reference.{Moment}
 use Rattle.logged_runs.specs.Laws.{AgreesWithOne}
 use Rattle.image_meaning.specs.Standing.{StandsFor}
 use Rattle.degradation.specs.declared.chosen.Chosen.{Chosen}
@@ -26,7 +24,7 @@ use Rattle.lawful_timeline.specs.Ending.{HasSaved}
 use Rattle.cn_runtime.specs.Planned.{IsPlanFor}
 use Rattle.cn_runtime.specs.Resumed.{CanGoOn}
 use Rattle.cn_resume.specs.declared.fault.ImageKind.TheVariants as kind
-use Rattle.cn_resume.specs.Records.{IsRecord, StartsBefore, entry_in, entries_in}
+use Rattle.cn_resume.specs.Records.{IsRecord, StartsBefore, entry_in}
 use Rattle.cn_resume.specs.Fit.{IsFit, Purpose, current_in, image_in, logged_in, moment_in, slot_in, tick_in}
 use Rattle.resumed_runs.specs.Files.{BeginsWith, purpose_for}
 use Rattle.resumed_runs.proofs.Settings.{current_is, fixed_own, is_there}
