@@ -176,7 +176,7 @@ module _ (words tasks : ℕ) (code : CodeValue) (v : IsVerified words tasks code
         let r = section_ran rest n s.0.after (record { words_are = g.stays.words ∙ shape.words_are; posts_are = g.stays.posts ∙ shape.posts_are }) there (InTask (place_after x pc) there.kept g.place g.task g.stands) (omega (arith, long)) in
         record {
           run = then pc [] r.run;
-          ends = until_goes Task code h pc s.0 here.next s.1 n [] r.run (ap (goes_on Task) g.went) r.ends;
+          ends = until_goes Task code h pc s.0 here.next s.1 n [] r.run g.goes r.ends;
           path_is = ap (λ l. pc ∷ l) r.path_is;
           rests = r.rests;
         }

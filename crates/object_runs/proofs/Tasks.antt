@@ -59,6 +59,7 @@ module _ (words tasks : ℕ) (code : CodeValue) (v : IsVerified words tasks code
   -- a section that goes on
   pub record GoesFurther (pc : ℕ) (x : Instr) (h : Held) (s : Stepping) : Type 0 where
     pub went : s.did ≡ Went
+    pub goes : goes_on Task s.did ≡ Some []
     pub place : s.after.place ≡ Some (place_after x pc)
     pub stays : Stays h s.after
     pub task : IsTaskPlace code (place_after x pc)
@@ -76,6 +77,7 @@ module _ (words tasks : ℕ) (code : CodeValue) (v : IsVerified words tasks code
   goes_further : (pc next later : ℕ) (x : Instr) (h : Held) (s : Stepping) → place_after x pc ≡ next → s.did ≡ Went → s.after.place ≡ Some next → Stays h s.after → next < length code.instrs → next < versions_begin code → ((t : ℕ) → slice_get code.instrs next ≢ Some (i.Begin t)) → IsDepth code next later → length s.after.stack ≡ later → GoesFurther pc x h s
   goes_further pc next later x h s e went place stays within low no_begin is size = record {
     went = went;
+    goes = ap (goes_on Task) went;
     place = place ∙ ap Some (sym e);
     stays = stays;
     task = subst (IsTaskPlace code) (sym e) (record { task = low; no_begin = no_begin });
