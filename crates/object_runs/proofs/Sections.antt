@@ -7,7 +7,7 @@ use Rattle.cat_machine.specs.declared.instr.Instr.TheVariants as i
 use Rattle.cat_machine.specs.declared.instr.Mode.TheVariants.{Task}
 use Rattle.cat_machine.specs.CodeValue.{CodeValue}
 use Rattle.cat_machine.specs.Held.{Held}
-use Rattle.cat_machine.specs.Machine.{Ended', goes_on, next_of, until}
+use Rattle.cat_machine.specs.Machine.{Ended', next_of, until}
 use Rattle.cat_machine.specs.Fits.{HasShape}
 use Rattle.cost_bounds.specs.Paths.{acts, place_after, SectionFrom, Acts, GoesOn}
 use Rattle.cn_object.specs.Operands.{target_of}
