@@ -1,28 +1,27 @@
 -- What the pass over verified code works out are the greatest sums over its paths.
-use Rattle.std.proofs.Common.{◌≡◌, ℕ, zero, suc, ◌+◌, ◌*◌, ◌<◌, ◌≤◌, ◌⊎◌, inl, inr, List, [], ◌∷◌, ◌++◌, length, take, refl, sym, ◌∙◌, ap, subst, Bool, true, false, arith}
-use Rattle.std.specs.Prelude.{Option, Some, None, map, min, slice_get, unwrap_or}
+use Rattle.std.proofs.Common.{◌≡◌, ℕ, zero, suc, ◌+◌, ◌*◌, ◌<◌, ◌≤◌, ◌⊎◌, inl, inr, List, [], ◌∷◌, length, take, refl, sym, ◌∙◌, ap, subst, true, false, arith}
+use Rattle.std.specs.Prelude.{Option, Some, None, map, slice_get, unwrap_or}
 use Rattle.std.specs.List.{All, flat_map}
 use Rattle.std.proofs.lemmas.List.{length-map}
-use Rattle.std.proofs.lemmas.Option.{slice_get_within}
 use Rattle.cat_program.specs.declared.syntax.Class.{Class}
 use Rattle.cat_program.specs.declared.syntax.Class.TheVariants.{Basic, Memory, Out}
 use Rattle.nv_memory.specs.declared.device.Device.{Device}
 use Rattle.cat_machine.specs.declared.instr.Instr.{Instr}
 use Rattle.cat_machine.specs.ClassOf.{class_of}
-use Rattle.cat_machine.specs.CodeValue.{CodeValue, EntryAt, versions_at}
-use Rattle.cat_machine.specs.Costs.{Costs, instr_cost, place_cost, path_cost}
+use Rattle.cat_machine.specs.CodeValue.{CodeValue, EntryAt}
+use Rattle.cat_machine.specs.Costs.{Costs, instr_cost, place_cost}
 use Rattle.cost_bounds.specs.declared.job.Job.{Job}
 use Rattle.cost_bounds.specs.BoundsValue.{BoundsValue, job_at}
 use Rattle.cost_bounds.specs.Paths.{acts, place_after, SectionFrom, Acts, GoesOn, HandlerFrom}
 use Rattle.cost_bounds.specs.Greatest.{units_of, ticks_of, IsGreatest, times, whole_job}
-use Rattle.cost_bounds.specs.Pass.{capped, job_in, plus_capped, times_capped, front_of, most_number, tasks_in, SumsTo, IsWorth, IsTop, entry_job, cost_job, around_job, AreMade}
+use Rattle.cost_bounds.specs.Pass.{capped, job_in, plus_capped, times_capped, front_of, tasks_in, SumsTo, IsWorth, IsTop, entry_job, cost_job, around_job, AreMade}
 use Rattle.cn_object.specs.Spelling.{HasVersions}
 use Rattle.cn_object.specs.Operands.{target_of}
 use Rattle.cn_object.specs.Regions.{version_entries, versions_begin}
 use Rattle.cn_object.specs.Verified.{IsVerified}
 use Rattle.cn_object.specs.Sums.{HandlerSums}
-use Rattle.object_runs.specs.Bounds.{sum_in, AreGreatestIn, IsSectionPath, IsJobAt, AreBoundsIn}
-use Rattle.object_runs.proofs.Places.{At, in_code, next_in_tasks, one_instr, target_in_tasks, tasks_within, version_entry, version_entry_high}
+use Rattle.object_runs.specs.Bounds.{sum_in, IsSectionPath, IsJobAt, AreBoundsIn}
+use Rattle.object_runs.proofs.Places.{At, next_in_tasks, one_instr, target_in_tasks, tasks_within, version_entry, version_entry_high}
 use Rattle.object_runs.proofs.Handlers.{entry_found}
 use Rattle.object_runs.proofs.Sections.{jump_or, quiet_end, section_exists}
 

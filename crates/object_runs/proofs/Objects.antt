@@ -1,5 +1,5 @@
 -- What holds of objects that can be run.
-use Rattle.std.proofs.Common.{◌≡◌, ℕ, zero, suc, ◌+◌, ◌*◌, ◌/◌, ◌<◌, ◌≤◌, ◌⊎◌, inl, inr, ℤ, List, [], ◌∷◌, length, refl, sym, ◌∙◌, ap, subst, arith}
+use Rattle.std.proofs.Common.{◌≡◌, ℕ, zero, suc, ◌<◌, ◌≤◌, List, [], ◌∷◌, length, refl, sym, ◌∙◌, ap, subst, arith}
 use Rattle.std.specs.Prelude.{Option, Some, None, MatchOption, slice_get, unwrap_or}
 use Rattle.cat_program.specs.Meaning.{Output}
 use Rattle.cat_program.specs.declared.syntax.Stepped.{Stepped}
@@ -8,23 +8,22 @@ use Rattle.nv_memory.specs.declared.device.Device.{Device}
 use Rattle.cat_machine.specs.declared.instr.Did.{Did}
 use Rattle.cat_machine.specs.declared.instr.Mode.{Mode}
 use Rattle.cat_machine.specs.declared.instr.Mode.TheVariants.{Task, Handler}
-use Rattle.cat_machine.specs.CodeValue.{CodeValue, EntryAt}
+use Rattle.cat_machine.specs.CodeValue.{CodeValue}
 use Rattle.cat_machine.specs.Held.{Held}
-use Rattle.cat_machine.specs.Machine.{Ended', Stepping, after_step, entered, follow, goes_on, next_of, prepended, step_at, step_of, until}
+use Rattle.cat_machine.specs.Machine.{Ended', Stepping, after_step, next_of, prepended, step_at, step_of, until}
 use Rattle.cat_machine.specs.Fits.{stepped_of}
 use Rattle.cost_bounds.specs.declared.job.Job.{Job}
-use Rattle.cost_bounds.specs.BoundsValue.{BoundsValue, job_at}
+use Rattle.cost_bounds.specs.BoundsValue.{BoundsValue}
 use Rattle.cost_bounds.specs.Paths.{SectionFrom, HandlerFrom}
-use Rattle.cost_bounds.specs.Greatest.{units_of, ticks_of, whole_job, IsWithin}
+use Rattle.cost_bounds.specs.Greatest.{whole_job, IsWithin}
 use Rattle.cost_bounds.specs.Pass.{tasks_in, AreMade}
 use Rattle.cn_object.specs.declared.object.Object.{Object}
-use Rattle.cn_object.specs.Regions.{version_entries, versions_begin}
-use Rattle.cn_object.specs.Running.{first_of}
+use Rattle.cn_object.specs.Regions.{version_entries}
 use Rattle.cn_object.specs.Verified.{IsVerified}
 use Rattle.cn_object.specs.Sums.{HandlerSums}
 use Rattle.object_runs.specs.Resting.{IsAtRest, IsResting, IsRunnable}
 use Rattle.object_runs.specs.Running.{Answers, Enough, Over, Goes, IsSection, SectionGives}
-use Rattle.object_runs.specs.Whole.{SectionEnds, HandlerEnds, RunsWell, IsReached, First, BySection, ByHandler, IsStart, AtSection, AtHandler, Follows, Same, Further}
+use Rattle.object_runs.specs.Whole.{RunsWell, IsReached, First, BySection, ByHandler, IsStart, AtSection, AtHandler, Follows, Same, Further}
 use Rattle.object_runs.specs.Bounds.{lines_for, spent_in, IsSectionPath, AreBoundsIn, AreBoundsOf, CostsWithin}
 use Rattle.object_runs.proofs.Places.{some_same}
 use Rattle.object_runs.proofs.Runs.{until_more}

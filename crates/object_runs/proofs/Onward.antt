@@ -16,7 +16,7 @@ use Rattle.cat_machine.specs.Machine.{Stepping, goes_on}
 use Rattle.cost_bounds.specs.Paths.{is_turn, opened, turn_follows, LeadsTo as PathLeads}
 use Rattle.cost_bounds.specs.Pass.{is_straight}
 use Rattle.cn_object.specs.Regions.{versions_begin}
-use Rattle.cn_object.specs.Depths.{taken, given, ways_of, on_way, IsDepth, LeadsTo}
+use Rattle.cn_object.specs.Depths.{taken, given, ways_of, on_way, IsDepth}
 use Rattle.cn_object.specs.Loops.{GoesTo, IsBetween, TurnsAt}
 use Rattle.cn_object.specs.Verified.{IsVerified}
 use Rattle.cn_object.specs.Fitting.{HasCounters, StandsAt}

@@ -1,15 +1,15 @@
 -- The places of verified code, and the loops around them.
-use Rattle.std.proofs.Common.{◌≡◌, ◌≢◌, ℕ, zero, suc, ◌+◌, ◌-◌, ◌<◌, ◌≤◌, ◌⊎◌, inl, inr, List, [], ◌∷◌, ◌++◌, length, refl, sym, ◌∙◌, ap, subst, get_or, Bool, true, false, arith}
-use Rattle.std.specs.Prelude.{◌↔◌, Option, Some, None, pos, slice_get, unwrap_or}
+use Rattle.std.proofs.Common.{◌≡◌, ◌≢◌, ℕ, zero, suc, ◌+◌, ◌-◌, ◌<◌, ◌≤◌, ◌⊎◌, inl, inr, List, [], ◌∷◌, ◌++◌, length, refl, sym, ◌∙◌, ap, subst, get_or, arith}
+use Rattle.std.specs.Prelude.{Option, Some, None, pos, slice_get, unwrap_or}
 use Rattle.std.proofs.lemmas.Bool.{cases_lt}
 use Rattle.std.proofs.lemmas.Option.{slice_get-get_or, slice_get_within}
 use Rattle.cat_machine.specs.declared.instr.Instr.{Instr}
 use Rattle.cat_machine.specs.declared.instr.Instr.TheVariants as i
 use Rattle.cat_machine.specs.CodeValue.{CodeValue}
 use Rattle.cn_object.specs.Operands.{target_of, HasOperands}
-use Rattle.cn_object.specs.Regions.{IsEntry, IsRegionEnd, SuitsRegion, all_entries, version_entries, versions_begin}
+use Rattle.cn_object.specs.Regions.{IsEntry, SuitsRegion, all_entries, version_entries, versions_begin}
 use Rattle.cn_object.specs.Depths.{IsDepth, StackIs, LeadsTo, Enters, Follows}
-use Rattle.cn_object.specs.Loops.{GoesTo, IsBackOf, IsBetween, IsRepeat, TurnsAt, VersionLoopsAt}
+use Rattle.cn_object.specs.Loops.{GoesTo, IsBetween, IsRepeat, TurnsAt, VersionLoopsAt}
 use Rattle.cn_object.specs.Verified.{IsVerified}
 
 pub some_same : {X : Type 0} (x y : X) → Some x ≡ Some y → x ≡ y

@@ -1,13 +1,13 @@
 -- A section of verified code: there is one from each place of the tasks' code, and it is short.
-use Rattle.std.proofs.Common.{◌≡◌, ◌≢◌, ℕ, zero, suc, ◌+◌, ◌-◌, ◌<◌, ◌≤◌, ◌⊎◌, inl, inr, List, [], ◌∷◌, length, get_or, refl, sym, ◌∙◌, ap, subst, Bool, true, false, arith}
-use Rattle.std.specs.Prelude.{Option, Some, None, slice_get}
+use Rattle.std.proofs.Common.{◌≡◌, ◌≢◌, ℕ, zero, suc, ◌+◌, ◌-◌, ◌<◌, ◌≤◌, ◌⊎◌, inl, inr, List, [], ◌∷◌, length, get_or, refl, sym, ◌∙◌, ap, subst, true, false, arith}
+use Rattle.std.specs.Prelude.{Some, None, slice_get}
 use Rattle.std.proofs.lemmas.Bool.{cases_lt}
 use Rattle.cat_machine.specs.declared.instr.Instr.{Instr}
 use Rattle.cat_machine.specs.declared.instr.Instr.TheVariants as i
 use Rattle.cat_machine.specs.declared.instr.Mode.TheVariants.{Task}
 use Rattle.cat_machine.specs.CodeValue.{CodeValue}
 use Rattle.cat_machine.specs.Held.{Held}
-use Rattle.cat_machine.specs.Machine.{Ended', Stepping, goes_on, next_of, place_or, step_of, until}
+use Rattle.cat_machine.specs.Machine.{Ended', next_of, until}
 use Rattle.cat_machine.specs.Fits.{HasShape}
 use Rattle.cost_bounds.specs.Paths.{acts, place_after, SectionFrom, Acts, GoesOn}
 use Rattle.cn_object.specs.Operands.{target_of}
@@ -16,12 +16,11 @@ use Rattle.cn_object.specs.Loops.{ActsSoon, Acts as SoonActs, GoesOn as SoonOn}
 use Rattle.cn_object.specs.Verified.{IsVerified}
 use Rattle.cn_object.specs.Fitting.{StandsIn, InTask}
 use Rattle.object_runs.specs.Resting.{IsResting}
-use Rattle.object_runs.specs.Running.{IsSection}
 use Rattle.object_runs.specs.Whole.{SectionEnds}
 use Rattle.object_runs.proofs.Places.{At, in_code, next_in_tasks, one_instr, split, target_in_tasks, tasks_within}
 use Rattle.object_runs.proofs.Acts.{does}
 use Rattle.object_runs.proofs.Runs.{acts_here, alone, then, until_goes, until_stops}
-use Rattle.object_runs.proofs.Tasks.{IsIn, further, over, rest_stands, stands_task}
+use Rattle.object_runs.proofs.Tasks.{IsIn, further, further_in, over, rest_stands, stands_task}
 use Rattle.object_runs.proofs.Fitting.{bool_is, instr_at}
 use Rattle.object_runs.proofs.Handlers.{NeverStuck, fits_by}
 
@@ -173,16 +172,11 @@ module _ (words tasks : ℕ) (code : CodeValue) (v : IsVerified words tasks code
     section_ran (GoesOn {pc} {path} x is quiet rest) (suc n) h shape here stands long =
         let s = stuck code h Task (fits_by words tasks code h v counted shape stands) (here.kept, (pc, here.next)) in
         let g = further words tasks code v pc x h s.0 here is quiet (does Task pc h x s.0 (acts_here Task code h pc s.0 here.next s.1 x is)) in
-        let there : IsIn words tasks code v s.0.after (place_after x pc) = record {
-          kept = g.stays.kept ∙ here.kept;
-          next = ap (place_or code s.0.after.posts) g.place;
-          low = g.task.task;
-          stands = g.stands;
-        } in
+        let there = further_in words tasks code v pc x h s.0 here g in
         let r = section_ran rest n s.0.after (record { words_are = g.stays.words ∙ shape.words_are; posts_are = g.stays.posts ∙ shape.posts_are }) there (InTask (place_after x pc) there.kept g.place g.task g.stands) (omega (arith, long)) in
         record {
           run = then pc [] r.run;
-          ends = until_goes Task code h pc s.0 here.next s.1 n [] r.run (ap (goes_on Task) g.went) r.ends;
+          ends = until_goes Task code h pc s.0 here.next s.1 n [] r.run g.goes r.ends;
           path_is = ap (λ l. pc ∷ l) r.path_is;
           rests = r.rests;
         }

@@ -1,12 +1,11 @@
 -- One instruction of a task: where it leads, and how a section ends.
-use Rattle.std.proofs.Common.{◌≡◌, ◌≢◌, ℕ, zero, suc, ◌+◌, ◌-◌, ◌<◌, ◌≤◌, ◌⊎◌, inl, inr, ℤ, List, [], ◌∷◌, length, refl, sym, ◌∙◌, ap, subst, Bool, true, false, arith}
+use Rattle.std.proofs.Common.{◌≡◌, ◌≢◌, ℕ, ◌+◌, ◌-◌, ◌<◌, ◌⊎◌, inl, inr, ℤ, List, [], length, refl, sym, ◌∙◌, ap, subst, true, false, arith}
 use Rattle.std.specs.Prelude.{Option, Some, None, slice_get}
 use Rattle.std.proofs.lemmas.Bool.{cases_lt}
 use Rattle.std.proofs.lemmas.List.{nil_from_length}
 use Rattle.cat_program.specs.Meaning.{first_posted}
 use Rattle.cat_machine.specs.declared.instr.Instr.{Instr}
 use Rattle.cat_machine.specs.declared.instr.Instr.TheVariants as i
-use Rattle.cat_machine.specs.declared.instr.Mode.{Mode}
 use Rattle.cat_machine.specs.declared.instr.Mode.TheVariants.{Task, Handler}
 use Rattle.cat_machine.specs.declared.instr.Did.TheVariants.{Went}
 use Rattle.cat_machine.specs.CodeValue.{CodeValue}
@@ -60,6 +59,7 @@ module _ (words tasks : ℕ) (code : CodeValue) (v : IsVerified words tasks code
   -- a section that goes on
   pub record GoesFurther (pc : ℕ) (x : Instr) (h : Held) (s : Stepping) : Type 0 where
     pub went : s.did ≡ Went
+    pub goes : goes_on Task s.did ≡ Some []
     pub place : s.after.place ≡ Some (place_after x pc)
     pub stays : Stays h s.after
     pub task : IsTaskPlace code (place_after x pc)
@@ -77,6 +77,7 @@ module _ (words tasks : ℕ) (code : CodeValue) (v : IsVerified words tasks code
   goes_further : (pc next later : ℕ) (x : Instr) (h : Held) (s : Stepping) → place_after x pc ≡ next → s.did ≡ Went → s.after.place ≡ Some next → Stays h s.after → next < length code.instrs → next < versions_begin code → ((t : ℕ) → slice_get code.instrs next ≢ Some (i.Begin t)) → IsDepth code next later → length s.after.stack ≡ later → GoesFurther pc x h s
   goes_further pc next later x h s e went place stays within low no_begin is size = record {
     went = went;
+    goes = ap (goes_on Task) went;
     place = place ∙ ap Some (sym e);
     stays = stays;
     task = subst (IsTaskPlace code) (sym e) (record { task = low; no_begin = no_begin });
@@ -127,6 +128,10 @@ module _ (words tasks : ℕ) (code : CodeValue) (v : IsVerified words tasks code
   further pc x h s t is quiet (Leaves to top e mode a b place moves stays goes) = absurd (let clash : Task ≡ Handler = mode in cc)
   further pc x h s t is quiet (TurnsIn to top e mode a b now place moves stays goes) = absurd (let clash : Task ≡ Handler = mode in cc)
   further pc x h s t is quiet (Ends e stack kept w p ends) = absurd (let clash : true ≡ false = ap acts (sym e) ∙ quiet in cc)
+
+  -- the section stands at its next place
+  pub further_in : (pc : ℕ) (x : Instr) (h : Held) (s : Stepping) → IsIn h pc → GoesFurther pc x h s → IsIn s.after (place_after x pc)
+  further_in pc x h s t g = record { kept = g.stays.kept ∙ t.kept; next = ap (place_or code s.after.posts) g.place; low = g.task.task; stands = g.stands }
 
   -- ---- an instruction that acts
 

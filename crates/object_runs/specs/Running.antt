@@ -1,5 +1,5 @@
 -- Sections, and what the first ones of a run answer.
-use Rattle.std.specs.Prelude.{◌≡◌, ℕ, zero, suc, List, [], ◌∷◌, Option, Some, None, MatchOption}
+use Rattle.std.specs.Prelude.{◌≡◌, ℕ, suc, List, [], ◌∷◌, Some, None, MatchOption}
 use Rattle.cat_program.specs.declared.syntax.Stepped.{Stepped}
 use Rattle.cat_program.specs.declared.syntax.Stepped.TheVariants.{None as NoStep}
 use Rattle.cat_machine.specs.declared.instr.Mode.TheVariants.{Task}

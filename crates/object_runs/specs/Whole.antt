@@ -1,5 +1,5 @@
 -- Runs of sections and handlers, and how each of them ends.
-use Rattle.std.specs.Prelude.{◌≡◌, ℕ, ℤ, List, [], length, Some}
+use Rattle.std.specs.Prelude.{◌≡◌, ℕ, ℤ, List, [], Some}
 use Rattle.cat_program.specs.Meaning.{Output}
 use Rattle.cat_machine.specs.declared.instr.Did.TheVariants.{Ended}
 use Rattle.cat_machine.specs.declared.instr.Mode.{Mode}

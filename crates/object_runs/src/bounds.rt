@@ -1,7 +1,8 @@
 //! What the code of an object takes on a device.
 
 ghost use Rattle.std.specs.Prelude.{IfOk};
-ghost use Rattle.object_runs.specs.Bounds.{AreBoundsOf};
+ghost use Rattle.cost_bounds.specs.Pass.{AreMade, tasks_in};
+ghost use Rattle.object_runs.specs.Bounds.{AreBoundsOf, lines_for};
 ghost use Rattle.object_runs.specs.Resting.{IsRunnable};
 
 use cn_base::NoMemory;
@@ -11,10 +12,11 @@ use nv_memory::{Device, Layout};
 use std::alloc::Global;
 
 /// The greatest units and the greatest ticks over the paths of an object that the verifier has accepted, on a device where a slot
-/// holds its words, tasks and events.
+/// holds its words, tasks and events. They are what one pass over the code works out.
 pub fn object_bounds(alloc: Global, object: &Object, device: &Device) -> Result<Bounds, NoMemory>
     requires { IsRunnable object.now }
-    ensures { IfOk result (AreBoundsOf object.now device.now) }
+    ensures greatest { IfOk result (AreBoundsOf object.now device.now) }
+    ensures made { IfOk result (λ b. AreMade object.now.code device.now (lines_for object.now) (tasks_in object.now.code) b) }
 {
     handler_sums_law();
     let layout = Layout {
