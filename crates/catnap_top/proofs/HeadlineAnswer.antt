@@ -139,7 +139,7 @@ module _ (laws : LowerLaws) (again : ReadsAgain) (lawful : (program : Checked) (
           lives = lives;
           status_is = refl;
           text_is = refl;
-          shows = run_shows bytes files chosen told served (first_work files.program) life goes ((starts files.program goes.plan).begins p fresh) ((starts files.program goes.plan).fresh p fresh)
+          shows = run_shows bytes files chosen told served (first_work files.program) life goes ((starts files.program goes.plan).begins p fresh) ((starts files.program goes.plan).fresh p fresh).saved
               (on_time files.program files.device f.bounds goes.plan life.origin.tick p goes.chunks f.planned up fresh (begins_as life.origin files.device goes.device_is) goes.lawful)
               0 (fresh_from files.program (past_in life) (subst (λ (l : Layout). IsFresh files.program l life.origin.image) (sym goes.layout_is) lives.fresh));
         })

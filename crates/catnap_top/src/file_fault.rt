@@ -5,7 +5,8 @@ ghost use Rattle.cn_base.specs.Causes.{HasCause};
 ghost use Rattle.cn_base.specs.Writing.{Writes};
 ghost use Rattle.catnap_top.specs.FileFaults.{image_kind_name, image_line, object_kind_name, object_line};
 
-use cn_base::{Piece, Sink, WriteFail, put_line};
+use crate::line::put_refusal;
+use cn_base::{Sink, WriteFail};
 use cn_object::Kind;
 use cn_resume::ImageKind;
 
@@ -59,15 +60,11 @@ pub fn put_object_fault<K: Sink>(sink: &mut K, kind: Kind, place: u32) -> Result
     ensures text { Writes (K.written sink.old) (K.written sink.new) (object_line kind place) result }
     ensures cause { HasCause (K.faults sink.old) (K.faults sink.new) result }
 {
-    put_line(
+    put_refusal(
         sink,
-        &[
-            Piece::Text(b"fault object "),
-            Piece::Text(object_kind_name(kind).as_bytes()),
-            Piece::Text(b" "),
-            Piece::Number(i128::from(place)),
-            Piece::Text(b"\n"),
-        ],
+        b"fault object ",
+        object_kind_name(kind).as_bytes(),
+        u64::from(place),
     )
 }
 
@@ -76,14 +73,5 @@ pub fn put_image_fault<K: Sink>(sink: &mut K, kind: ImageKind, at: u64) -> Resul
     ensures text { Writes (K.written sink.old) (K.written sink.new) (image_line kind at) result }
     ensures cause { HasCause (K.faults sink.old) (K.faults sink.new) result }
 {
-    put_line(
-        sink,
-        &[
-            Piece::Text(b"fault image "),
-            Piece::Text(image_kind_name(kind).as_bytes()),
-            Piece::Text(b" "),
-            Piece::Number(i128::from(at)),
-            Piece::Text(b"\n"),
-        ],
-    )
+    put_refusal(sink, b"fault image ", image_kind_name(kind).as_bytes(), at)
 }

@@ -22,18 +22,23 @@ pub fn put_read_fault<K: Sink>(sink: &mut K, place: u32) -> Result<(), WriteFail
     )
 }
 
-/// Writes why a source is refused, by the name of the kind, and which byte is named for it. Takes no memory.
-pub fn put_refusal<K: Sink>(sink: &mut K, name: &[u8], place: u32) -> Result<(), WriteFail>
-    ensures text { Writes (K.written sink.old) (K.written sink.new) (line (codes "fault source " ∷ name.now ∷ codes " " ∷ decimal place ∷ codes "\n" ∷ [])) result }
+/// Writes why a file is refused: what begins the line, the name of the kind, and the number that tells where. Takes no memory.
+pub fn put_refusal<K: Sink>(
+    sink: &mut K,
+    head: &[u8],
+    name: &[u8],
+    at: u64,
+) -> Result<(), WriteFail>
+    ensures text { Writes (K.written sink.old) (K.written sink.new) (line (head.now ∷ name.now ∷ codes " " ∷ decimal at ∷ codes "\n" ∷ [])) result }
     ensures cause { HasCause (K.faults sink.old) (K.faults sink.new) result }
 {
     put_line(
         sink,
         &[
-            Piece::Text(b"fault source "),
+            Piece::Text(head),
             Piece::Text(name),
             Piece::Text(b" "),
-            Piece::Number(i128::from(place)),
+            Piece::Number(i128::from(at)),
             Piece::Text(b"\n"),
         ],
     )

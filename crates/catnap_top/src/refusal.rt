@@ -84,7 +84,7 @@ impl SourceFault {
         ensures cause { HasCause (K.faults sink.old) (K.faults sink.new) result }
     {
         let name = self.kind.name();
-        put_refusal(sink, name, self.place)
+        put_refusal(sink, b"fault source ", name, u64::from(self.place))
     }
 }
 

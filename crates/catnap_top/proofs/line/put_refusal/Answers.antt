@@ -10,5 +10,5 @@ use Rattle.catnap_top.proofs.line.put_refusal.Goals as goal
 pub returns-clause-text : goal.returns-clause-text
 returns-clause-text g c =
     subst (λ number. Writes (g.K.Sink.written c.args.sink.now) (g.K.Sink.written c.put_line.new.sink)
-    (line (codes "fault source " ∷ c.args.name.now ∷ codes " " ∷ signed_decimal number ∷ codes "\n" ∷ [])) c.put_line.result)
+    (line (c.args.head.now ∷ c.args.name.now ∷ codes " " ∷ signed_decimal number ∷ codes "\n" ∷ [])) c.put_line.result)
     (to_z-of_z w128 c.from.result (record { sfits = c.from.type_inv }) ∙ c.from.ensures) c.put_line.ensures.text

@@ -1,0 +1,4 @@
+use Rattle.catnap_top.proofs.file_fault.put_image_fault.Goals as goal
+
+pub returns-clause-text : goal.returns-clause-text
+returns-clause-text g c = rw (c.as_bytes.ensures.value, c.image_kind_name.ensures) at c.put_refusal.ensures.text
