@@ -23,10 +23,10 @@ pub fn put_read_fault<K: Sink>(sink: &mut K, place: u32) -> Result<(), WriteFail
 }
 
 /// Writes why a file is refused: what begins the line, the name of the kind, and the number that tells where. Takes no memory.
-pub fn put_refusal<K: Sink>(
+pub fn put_refusal<'x, K: Sink>(
     sink: &mut K,
-    head: &[u8],
-    name: &[u8],
+    head: &'x [u8],
+    name: &'x [u8],
     at: u64,
 ) -> Result<(), WriteFail>
     ensures text { Writes (K.written sink.old) (K.written sink.new) (line (head.now ∷ name.now ∷ codes " " ∷ decimal at ∷ codes "\n" ∷ [])) result }
