@@ -1,30 +1,25 @@
 -- What a life leaves is accepted.
-use Rattle.std.proofs.Common.{◌≡◌, ◌≤◌, ◌++◌, ℕ, List, [], append-nil, Ok, Err, refl, sym, ap, ◌∙◌, subst, arith}
-use Rattle.cn_base.specs.declared.TheConstants.{MOST_TICKS}
+use Rattle.std.proofs.Common.{◌≡◌, ◌≤◌, ℕ, List, [], append-nil, Ok, refl, sym, ap, ◌∙◌, subst, arith}
 use Rattle.board_core.specs.Reached.{first_state}
 use Rattle.board_core.specs.declared.origin.ModelOrigin.{ModelOrigin}
 use Rattle.cn_resume.specs.Fit.{IsFit}
 use Rattle.cn_resume.specs.Saved.{saved_bytes}
-use Rattle.cn_scheduler.specs.Chunks.{IsLawful, Link, point_after}
-use Rattle.cn_scheduler.specs.Point.{Point, Work, work_of}
-use Rattle.checkpoint_slots.specs.Image.{committed_slot}
-use Rattle.degradation.specs.Choice.{supply_of}
+use Rattle.cn_scheduler.specs.Chunks.{IsLawful, Link}
+use Rattle.cn_scheduler.specs.Point.{Point, Work}
 use Rattle.degradation.specs.declared.chosen.Chosen.{Chosen}
 use Rattle.harvest_trace.specs.Timeline.{life_of}
-use Rattle.lawful_timeline.specs.Starting.{StartsFresh, first_work, saved_point}
+use Rattle.lawful_timeline.specs.Starting.{first_work, saved_point}
 use Rattle.lawful_timeline.specs.Working.{IsSetUp}
 use Rattle.nv_memory.specs.Board.{State}
 use Rattle.nv_memory.specs.Laws.{LayoutsAreNumbers}
 use Rattle.nv_memory.specs.declared.device.Device.{Device}
 use Rattle.nv_memory.specs.declared.layout.Layout.{Layout}
-use Rattle.resumed_runs.specs.Files.{BeginsWith, LeadsTo, SavedImagesFit, purpose_for}
+use Rattle.resumed_runs.specs.Files.{LeadsTo, SavedImagesFit, purpose_for}
 use Rattle.catnap_top.specs.declared.files.ReplayFiles.{ReplayFiles}
 use Rattle.catnap_top.specs.Accepted.{ImagesAreAccepted, IsAccepted}
-use Rattle.catnap_top.specs.Files.{files_in}
 use Rattle.catnap_top.specs.Lives.{Goes, Life, Lives, start_point}
 use Rattle.catnap_top.specs.Look.{fits}
-use Rattle.catnap_top.specs.Resume.{GoesOn, Start, committed_work, purpose_in, start_for, start_in}
-use Rattle.catnap_top.specs.Served.{versions_in}
+use Rattle.catnap_top.specs.Resume.{GoesOn, Start, committed_work, start_for, start_in}
 use Rattle.catnap_top.proofs.HeadlineDeadlines.{some_ticks}
 use Rattle.catnap_top.proofs.HeadlineFiles.{LowerLaws, is_set_up, tells_files}
 use Rattle.catnap_top.proofs.Resuming.{is_fit, is_start}

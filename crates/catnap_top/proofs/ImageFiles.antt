@@ -1,8 +1,7 @@
 -- One byte more than the greatest saved image has tells as much as the whole file.
-use Rattle.std.proofs.Common.{◌≡◌, ℕ, ◌+◌, ◌*◌, ◌/◌, ◌<◌, ◌≤◌, List, length, take, Result, Ok, Err, refl, sym, ap, ◌∙◌, arith, subst}
-use Rattle.std.specs.Prelude.{min}
+use Rattle.std.proofs.Common.{◌≡◌, ℕ, ◌+◌, ◌<◌, ◌≤◌, List, length, take, Result, Ok, Err, sym, ◌∙◌, arith}
 use Rattle.std.proofs.lemmas.List.{length-take, take-take}
-use Rattle.cn_resume.specs.Fit.{Fails, HasHead, HasSize, Holds, HoldsBefore, IsFirstFault, IsFit, Purpose, counted_length, rank}
+use Rattle.cn_resume.specs.Fit.{HasSize, HoldsBefore, IsFirstFault, IsFit, Purpose, counted_length}
 use Rattle.cn_resume.specs.declared.fault.ImageKind.{ImageKind}
 use Rattle.cn_resume.specs.declared.fault.ImageKind.TheVariants as kind
 use Rattle.degradation.specs.declared.chosen.Chosen.{Chosen}

@@ -1,11 +1,11 @@
 -- A file that is longer than any object file is none, and so is its front.
-use Rattle.std.proofs.Common.{◌≡◌, ℕ, ◌+◌, ◌*◌, ◌<◌, ◌≤◌, ℤ, List, [], ◌∷◌, ◌++◌, length, map, Result, Ok, Err, refl, sym, ap, ◌∙◌, arith, subst}
+use Rattle.std.proofs.Common.{◌≡◌, ℕ, suc, ◌+◌, ◌*◌, ◌<◌, ◌≤◌, ℤ, List, [], ◌∷◌, ◌++◌, length, Result, Ok, Err, refl, sym, ap, ◌∙◌, arith}
 use Rattle.std.specs.List.{All, flat_map}
 use Rattle.std.specs.Int.{w32, to_le_bytes}
 use Rattle.std.proofs.lemmas.List.{length-append, length-map}
 use Rattle.cat_machine.specs.declared.instr.Instr.{Instr}
 use Rattle.cn_object.specs.Spelling.{HasVersions, IsFileOf, IsReadAs, IsSmall, cut, event_bytes, instr_bytes, parts_bytes, parts_of, tasks_bytes, spelled_with, word_bytes}
-use Rattle.cn_object.specs.Verdict.{IsBad, NoFile, Broken, IsGood}
+use Rattle.cn_object.specs.Verdict.{IsBad, NoFile, Broken}
 use Rattle.cn_object.specs.declared.object.Kind.{Kind}
 use Rattle.cn_object.specs.declared.object.Object.{Object}
 use Rattle.cn_object.specs.declared.parts.Parts.{Parts}
@@ -49,8 +49,9 @@ short_spelled o instrs bytes small spelled few =
     let words = flat_map word_bytes o.words in
     let tasks = tasks_bytes o.started o.code.tasks in
     let events = flat_map event_bytes o.code.versions in
+    let whole : length (spelled_with o instrs) ≡ 12 + length (words ++ (tasks ++ (events ++ instrs))) = omega arith in
     let sum : length bytes ≡ 12 + (length words + (length tasks + (length events + length instrs))) =
-    sym (ap length spelled)
+    sym (ap length spelled) ∙ whole
     ∙ ap (λ n. 12 + n) (length-append words (tasks ++ (events ++ instrs)) ∙ ap (λ n. length words + n) (length-append tasks (events ++ instrs) ∙ ap (λ n. length tasks + n) (length-append events instrs))) in
     omega (
       arith,

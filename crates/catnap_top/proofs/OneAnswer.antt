@@ -33,7 +33,7 @@ use Rattle.catnap_top.proofs.OneUplink.{OneUplinkText, uplinks_agree}
 use Rattle.catnap_top.specs.Image.{saved}
 use Rattle.catnap_top.specs.OneRest.{RestsAreOne}
 use Rattle.catnap_top.specs.Resume.{IsImage, Start, going, start_in}
-use Rattle.catnap_top.specs.RunObject.{IsObject, object_in, object_ran}
+use Rattle.catnap_top.specs.RunObject.{IsObject, object_ran}
 use Rattle.cn_object.specs.declared.object.Object.{Object as TheObject}
 use Rattle.catnap_top.specs.Bench.{summed}
 use Rattle.bench_input.specs.Input.{source_text, profile_text, trace_text, arrivals_text, failures_text}

@@ -1,5 +1,5 @@
 -- Bytes are one saved image of files that tell the same, or fail one condition with one number.
-use Rattle.std.proofs.Common.{◌≡◌, ℕ, List, length, Result, Ok, Err, refl, sym, ap, ◌∙◌, subst}
+use Rattle.std.proofs.Common.{◌≡◌, ℕ, List, length, Ok, Err, refl, sym, ap, ◌∙◌}
 use Rattle.std.specs.Prelude.{◌↔◌}
 use Rattle.cn_resume.specs.Fit.{IsFirstFault, IsFit, Purpose}
 use Rattle.cn_resume.specs.declared.fault.ImageKind.{ImageKind}
@@ -10,7 +10,6 @@ use Rattle.nv_memory.specs.Laws.{LayoutsAreNumbers}
 use Rattle.nv_memory.specs.declared.device.Device.{Device}
 use Rattle.nv_memory.specs.declared.layout.Layout.{Layout}
 use Rattle.same_runs.specs.Alike.{AreSamePurposes}
-use Rattle.catnap_top.specs.declared.file_fault.BadImage.{BadImage}
 use Rattle.catnap_top.specs.declared.files.ReplayFiles.{ReplayFiles}
 use Rattle.catnap_top.specs.Alike.{Agree, AreSameFiles}
 use Rattle.catnap_top.specs.Resume.{IsImage, Start, purpose_in}

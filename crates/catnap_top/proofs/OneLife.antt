@@ -20,7 +20,7 @@ use Rattle.cn_scheduler.specs.declared.engine.Chunk.{Chunk}
 use Rattle.cn_scheduler.specs.declared.engine.End.{End}
 use Rattle.cn_scheduler.specs.declared.engine.End.TheVariants.{TraceEnded, LogFull}
 use Rattle.cn_scheduler.specs.Chunks.{is_last}
-use Rattle.cn_scheduler.specs.Point.{Point, Work}
+use Rattle.cn_scheduler.specs.Point.{Work}
 use Rattle.lawful_timeline.specs.Claims.{Begins, EndsAs, last_outcome}
 use Rattle.lawful_timeline.specs.Starting.{StartsBelong, first_work}
 use Rattle.lawful_timeline.specs.Working.{IsSetUp}

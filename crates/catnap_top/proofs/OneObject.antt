@@ -1,10 +1,9 @@
 -- Bytes are one object, or break one rule at one place.
-use Rattle.std.proofs.Common.{◌≡◌, ℕ, List, Result, Ok, Err, refl, sym, ap, ◌∙◌, subst}
+use Rattle.std.proofs.Common.{◌≡◌, ℕ, List, Ok, Err}
 use Rattle.cn_object.specs.Spelling.{IsFileOf}
 use Rattle.cn_object.specs.Verdict.{IsBad, IsGood}
 use Rattle.cn_object.specs.declared.object.Kind.{Kind}
 use Rattle.cn_object.specs.declared.object.Object.{Object}
-use Rattle.catnap_top.specs.declared.file_fault.BadObject.{BadObject}
 use Rattle.catnap_top.specs.Alike.{Agree}
 use Rattle.catnap_top.specs.RunObject.{IsObject}
 

@@ -1,5 +1,5 @@
 -- Files that tell the same call for the same lives, and the same is told of them.
-use Rattle.std.proofs.Common.{◌≡◌, ℕ, false, List, length, map, None, replicate, refl, sym, ap, ◌∙◌, subst}
+use Rattle.std.proofs.Common.{◌≡◌, ℕ, List, length, map, None, replicate, refl, sym, ap, ◌∙◌, subst}
 use Rattle.cat_program.specs.declared.headers.Event.{Event}
 use Rattle.cat_program.specs.Checked.{Checked}
 use Rattle.cat_machine.specs.Code.{code_of}
@@ -8,8 +8,7 @@ use Rattle.nv_memory.specs.declared.layout.Layout.{Layout}
 use Rattle.recovery.specs.First.{IsFresh}
 use Rattle.cat_program.specs.Resting.{RestsAt}
 use Rattle.degradation.specs.declared.chosen.Chosen.{Chosen}
-use Rattle.board_core.specs.declared.origin.ModelOrigin.{ModelOrigin}
-use Rattle.board_core.specs.Reached.{first_state, model_start}
+use Rattle.board_core.specs.Reached.{model_start}
 use Rattle.cn_scheduler.specs.declared.plan.Plan.{Plan}
 use Rattle.cn_scheduler.specs.Point.{Point, Work}
 use Rattle.lawful_timeline.specs.Starting.{first_work}

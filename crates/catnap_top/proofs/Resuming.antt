@@ -1,21 +1,20 @@
 -- What a saved image that was accepted is, and what a life that has gone on from it tells.
-use Rattle.std.proofs.Common.{◌≡◌, ◌≤◌, ◌<◌, ◌-◌, ℕ, List, [], length, Ok, Err, false, refl, sym, ap, ◌∙◌, subst, arith}
-use Rattle.std.specs.Prelude.{Result, MatchResult}
+use Rattle.std.proofs.Common.{◌≡◌, ◌≤◌, ◌-◌, ℕ, List, length, Ok, false, refl, sym, ap, ◌∙◌, subst, arith}
 use Rattle.std.proofs.lemmas.List.{length-drop}
 use Rattle.board_core.specs.ModelBoardState.{origin_of, state_of}
-use Rattle.board_core.specs.Reached.{IsReached, first_state, model_start}
+use Rattle.board_core.specs.Reached.{IsReached, first_state}
 use Rattle.board_core.specs.declared.model_board.ModelBoard.{ModelBoard}
 use Rattle.board_core.specs.declared.origin.ModelOrigin.{ModelOrigin}
 use Rattle.cat_program.specs.Checked.{Checked}
 use Rattle.checkpoint_slots.specs.Image.{IsWellFormed, committed_bytes, committed_slot}
 use Rattle.cn_report.specs.Kept.{HasKept}
 use Rattle.cn_report.specs.Whole.{IsReplayed as IsTold, resumed_text}
-use Rattle.cn_resume.specs.Fit.{HasSize, IsFit, image_in, tick_in}
+use Rattle.cn_resume.specs.Fit.{HasSize, IsFit, image_in}
 use Rattle.cn_resume.specs.declared.fault.ImageKind.TheVariants as kind
 use Rattle.cn_runtime.specs.Planned.{IsPlanFor, IsPrepared}
 use Rattle.cn_runtime.specs.Resumed.{CanGoOn}
 use Rattle.cn_runtime.specs.declared.prepared.Prepared.{Prepared}
-use Rattle.cn_scheduler.specs.Point.{Point, Work, work_of}
+use Rattle.cn_scheduler.specs.Point.{work_of}
 use Rattle.cn_scheduler.specs.declared.engine.End.{End}
 use Rattle.cn_scheduler.specs.declared.engine.Engine.{Engine}
 use Rattle.cn_scheduler.specs.declared.plan.Plan.{Plan}
@@ -32,12 +31,12 @@ use Rattle.nv_memory.specs.declared.device.Device.{Device}
 use Rattle.nv_memory.specs.declared.layout.Layout.{Layout}
 use Rattle.recovery.specs.Past.{committed_at, image_at}
 use Rattle.reference_run.specs.Reference.{AreFor, setting_of}
-use Rattle.resumed_runs.specs.Files.{BeginsWith, FitImagesBegin}
+use Rattle.resumed_runs.specs.Files.{FitImagesBegin}
 use Rattle.catnap_top.specs.declared.files.ReplayFiles.{ReplayFiles}
 use Rattle.catnap_top.specs.declared.resume.BegunAgain.{BegunAgain}
 use Rattle.catnap_top.specs.declared.resume.Resumed.{Resumed}
 use Rattle.catnap_top.specs.declared.stop.Stop.{Stop}
-use Rattle.catnap_top.specs.Lives.{Goes, Life, start_point, status_of}
+use Rattle.catnap_top.specs.Lives.{Life, start_point, status_of}
 use Rattle.catnap_top.specs.Look.{Stops, goes}
 use Rattle.catnap_top.specs.Resume.{GoesOn, IsImage, Start, committed_work, going, past_since, purpose_in, rest_reported, start_for, start_in, told_before}
 use Rattle.catnap_top.specs.Resumed.{BeginsAgain, CanTellRest, HasGoneOn, files_with, resumed_answer}

@@ -1,7 +1,7 @@
 -- What a board keeps from one decision point to the next: time never goes back, and neither its life nor its store are exceeded.
-use Rattle.std.proofs.Common.{◌≡◌, ℕ, ◌+◌, ◌-◌, ◌≤◌, List, [], ◌∷◌, ◌++◌, length, refl, sym, ap, ◌∙◌, subst, arith, inl, inr, ◌⊎◌}
+use Rattle.std.proofs.Common.{◌≡◌, ℕ, ◌+◌, ◌-◌, ◌≤◌, List, [], ◌∷◌, ◌++◌, length, refl, ap, ◌∙◌, arith, inl, inr}
 use Rattle.std.specs.Prelude.{min}
-use Rattle.nv_memory.specs.Board.{IsDone, IsLost, IsOver, State, filled, ticks_of}
+use Rattle.nv_memory.specs.Board.{IsDone, IsLost, State, filled}
 use Rattle.nv_memory.specs.declared.entry.Op.{Op}
 use Rattle.nv_memory.specs.declared.entry.Op.TheVariants as op
 use Rattle.cn_scheduler.specs.Asked.{Ask, Asked, Limits, Stops, plain}

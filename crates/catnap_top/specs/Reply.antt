@@ -11,7 +11,7 @@ use Rattle.catnap_top.specs.Run.{running}
 use Rattle.catnap_top.specs.ReadyValue.{ready_answer}
 use Rattle.catnap_top.specs.Listed.{listing, listed}
 use Rattle.catnap_top.specs.Object.{compiling, filed}
-use Rattle.catnap_top.specs.RunObject.{object_ran, running_object}
+use Rattle.catnap_top.specs.RunObject.{running_object}
 use Rattle.catnap_top.specs.Loaded.{CanRun, loaded_answer}
 use Rattle.catnap_top.specs.Check.{checking, checked}
 use Rattle.catnap_top.specs.Plan.{planning, planned}

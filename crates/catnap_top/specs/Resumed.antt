@@ -1,6 +1,6 @@
 -- A replay that went on from a saved image and has ended, and the life and the report for which it stands.
 use Rattle.std.specs.Prelude.{◌≡◌, ◌≤◌, List, length}
-use Rattle.board_core.specs.Reached.{IsReached, first_state, model_start}
+use Rattle.board_core.specs.Reached.{IsReached, first_state}
 use Rattle.board_core.specs.ModelBoardState.{origin_of, state_of}
 use Rattle.checkpoint_slots.specs.Image.{committed_slot}
 use Rattle.checkpoint_slots.specs.Slot.{IsMadeFor}

@@ -1,6 +1,6 @@
 //! `image SRC DEVICE TRACE ARRIVALS FAILS`: what the device of a replay holds at its end.
 
-ghost use Rattle.std.specs.Prelude.{◌≡◌, IfOk};
+ghost use Rattle.std.specs.Prelude.{IfOk};
 ghost use Rattle.cn_base.specs.Causes.{HasCause};
 ghost use Rattle.cn_base.specs.Writing.{Writes};
 ghost use Rattle.catnap_top.specs.Image.{saved, saving};

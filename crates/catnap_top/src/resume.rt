@@ -1,6 +1,6 @@
 //! `resume SRC DEVICE TRACE ARRIVALS FAILS IMAGE`: the report of a life that goes on from a saved image.
 
-ghost use Rattle.std.specs.Prelude.{◌≡◌, ◌≤◌, ◌<◌, length, List, IfOk};
+ghost use Rattle.std.specs.Prelude.{◌≡◌, ◌≤◌, ◌<◌, length, IfOk};
 ghost use Rattle.cn_base.specs.Causes.{HasCause};
 ghost use Rattle.cn_base.specs.Writing.{Writes};
 ghost use Rattle.board_core.specs.ModelBoardState.{origin_of, state_of};

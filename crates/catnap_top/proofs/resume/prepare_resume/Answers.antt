@@ -1,4 +1,3 @@
-use Rattle.std.proofs.Common.{refl}
 use Rattle.catnap_top.specs.Resume.{resuming}
 use Rattle.catnap_top.specs.Reply.{reply_answer}
 use Rattle.catnap_top.specs.Look.{goes}
