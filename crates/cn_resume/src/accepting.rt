@@ -104,7 +104,7 @@ fn taken(alloc: Global, file: &[u8]) -> Result<Saved, NoMemory>
 }
 
 /// What is saved in a file from which a device can go on with a program, in these versions of its events, on these arrivals, in a
-/// life of so many ticks (at most 1,000,000). `docs/MEMORY.md` tells the conditions on the file.
+/// life of so many ticks (at most 1,000,000). `docs/FILES.md` tells the conditions on the file.
 ///
 /// # Errors
 ///
