@@ -2,7 +2,7 @@
 use Rattle.std.proofs.Common.{◌≡◌, ℕ, ◌+◌, ◌<◌, ◌≤◌, true, false, Bool, List, [], ◌∷◌, ◌++◌, length, take, get_or, Option, Some, None, refl, sym, ap, ◌∙◌, subst, arith}
 use Rattle.std.specs.Prelude.{nat_le, filter, slice_get, if◌then◌else◌}
 use Rattle.std.specs.List.{last_or}
-use Rattle.std.proofs.lemmas.List.{take_more}
+use Rattle.std.proofs.lemmas.List.{get_or_default, take_more}
 use Rattle.std.proofs.lemmas.Bool.Decides.{nat_tests}
 use Rattle.std.proofs.lemmas.Option.{slice_get_read}
 use Rattle.std.proofs.lemmas.List.Elements.{filter-append}
@@ -13,42 +13,25 @@ last_behind : (xs : List Epoch) (o : Option Epoch) (row : Epoch) → last_or o (
 last_behind [] o row = refl
 last_behind (x ∷ xs) o row = last_behind xs (Some x) row
 
-last_none : (xs : List Epoch) (o : Option Epoch) → last_or o (xs ++ []) ≡ last_or o xs
-last_none [] o = refl
-last_none (x ∷ xs) o = last_none xs (Some x)
-
 le_true : (a b : ℕ) → a ≤ b → nat_le a b ≡ true
 le_true a b h = grind (arith, nat_tests)
 
-le_false : (a b : ℕ) → b < a → nat_le a b ≡ false
-le_false a b h = grind (arith, nat_tests)
+-- one row more was looked at, and it has begun
+module _ (rows : List Epoch) (i t : ℕ) (d : Epoch) (below : i < length rows) (begun : (get_or rows i d).tick ≤ t) where
+  abbrev row : Epoch
+  row = get_or rows i d
 
-module _ (xs : List Epoch) (t : ℕ) (row : Epoch) where
   abbrev kept : Bool → List Epoch
   kept b = if b then row ∷ [] else []
 
-  split : filter (begins_by t) (xs ++ row ∷ []) ≡ filter (begins_by t) xs ++ kept (nat_le row.tick t)
-  split = filter-append (begins_by t) xs (row ∷ [])
+  found_row : slice_get rows i ≡ Some row
+  found_row = slice_get_read rows (length rows) i row refl below (get_or_default rows i d row below)
 
-  pub row_in : nat_le row.tick t ≡ true → in_force (xs ++ row ∷ []) t ≡ Some row
-  row_in by = ap (last_or None) (split ∙ ap (λ b. filter (begins_by t) xs ++ kept b) by) ∙ last_behind (filter (begins_by t) xs) None row
+  split : filter (begins_by t) (take i rows ++ row ∷ []) ≡ filter (begins_by t) (take i rows) ++ row ∷ []
+  split = filter-append (begins_by t) (take i rows) (row ∷ []) ∙ ap (λ b. filter (begins_by t) (take i rows) ++ kept b) (le_true row.tick t begun)
 
-  pub row_out : nat_le row.tick t ≡ false → in_force (xs ++ row ∷ []) t ≡ in_force xs t
-  row_out by = ap (last_or None) (split ∙ ap (λ b. filter (begins_by t) xs ++ kept b) by) ∙ last_none (filter (begins_by t) xs) None
-
--- one row more was looked at
-module _ (rows items : List Epoch) (i t : ℕ) (row : Epoch) (same : items ≡ rows) (below : i < length items) (is : row ≡ get_or items i row) where
-  pub seen_more : take (i + 1) rows ≡ take i rows ++ row ∷ []
-  seen_more = subst (λ xs. take (i + 1) xs ≡ take i xs ++ row ∷ []) same (take_more items i row below ∙ ap (λ (x : Epoch). take i items ++ x ∷ []) (sym is))
-
-  pub found_row : slice_get rows i ≡ Some row
-  found_row = subst (λ xs. slice_get xs i ≡ Some row) same (slice_get_read items (length items) i row refl below is)
-
-  pub is_in : row.tick ≤ t → (i < length rows) × (slice_get rows i ≡ in_force (take (i + 1) rows) t)
-  is_in le = (subst (λ xs. i < length xs) same below, found_row ∙ sym (ap (λ xs. in_force xs t) seen_more ∙ row_in (take i rows) t row (le_true row.tick t le)))
-
-  pub is_out : t < row.tick → in_force (take i rows) t ≡ in_force (take (i + 1) rows) t
-  is_out lt = sym (ap (λ xs. in_force xs t) seen_more ∙ row_out (take i rows) t row (le_false row.tick t lt))
+  pub is_in : (i < length rows) × (slice_get rows i ≡ in_force (take (i + 1) rows) t)
+  is_in = (below, found_row ∙ sym (ap (λ xs. in_force xs t) (take_more rows i d below) ∙ ap (last_or None) split ∙ last_behind (filter (begins_by t) (take i rows)) None row))
 
 -- ---- some row is in force at every tick
 

@@ -8,12 +8,15 @@ use Rattle.forecast_table.proofs.table.rows_of.Goals as goal
 pub rows-init : goal.rows-init
 rows-init c = rw c.new-kept.ensures.items (record { going = refl; numbered = omega arith; last_is = refl; rows = rows-none })
 
-pub returns-then-not-found-then-row-eq1-clause-fault : goal.returns-then-not-found-then-row-eq1-clause-fault
-returns-then-not-found-then-row-eq1-clause-fault c = ?
+pub returns-then-row-eq1-clause-fault : goal.returns-then-row-eq1-clause-fault
+returns-then-row-eq1-clause-fault c =
+    let none : length c.rows.kept.items ≡ 0 = omega (arith, c.rows.invariant.numbered, c.if-row-eq1.true) in
+    ap with_some (c.rows.invariant.going ∙ c.rows_are_read.ensures.end forecast_step c.rows.row c.rows.kept.items c.rows.rows.left (c.in-Ok.ensures.end c.if-not-found.true))
+    ∙ some-none c.rows.kept.items none
 
 pub returns-then-not-found-clause-ok : goal.returns-then-not-found-clause-ok
 returns-then-not-found-clause-ok c =
-    let some : 0 < length c.rows.kept.items = omega (arith, c.rows.invariant.numbered) in
+    let some : 0 < length c.rows.kept.items = omega (arith, c.rows.invariant.numbered, c.if-row-eq1.false) in
     ap with_some (c.rows.invariant.going ∙ c.rows_are_read.ensures.end forecast_step c.rows.row c.rows.kept.items c.rows.rows.left (c.in-Ok.ensures.end c.if-not-found.true))
     ∙ some-some c.rows.kept.items some ∙ ap Ok (sym c.of.ensures)
 
@@ -53,5 +56,5 @@ rows-preserved c =
 
 pub of-requires : goal.of-requires
 of-requires c =
-    let some : 0 < length c.rows.kept.items = omega (arith, c.rows.invariant.numbered) in
+    let some : 0 < length c.rows.kept.items = omega (arith, c.rows.invariant.numbered, c.if-row-eq1.false) in
     is_forecast c.rows.kept.items c.rows.invariant.rows some
