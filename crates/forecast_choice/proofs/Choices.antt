@@ -1,14 +1,16 @@
 -- The choices for the rows of a forecast, one after the other.
-use Rattle.std.proofs.Common.{◌≡◌, ℕ, zero, suc, ◌+◌, ◌<◌, ◌≤◌, ◌⊎◌, List, [], ◌∷◌, ◌++◌, length, Option, Some, refl, sym, ap, ◌∙◌, subst, arith, inl, inr, length-append}
+use Rattle.std.proofs.Common.{◌≡◌, ℕ, zero, suc, ◌+◌, ◌<◌, ◌≤◌, ◌⊎◌, List, [], ◌∷◌, ◌++◌, length, get_or, Option, Some, refl, sym, ap, ◌∙◌, subst, arith, inl, inr, length-append}
 use Rattle.std.specs.Prelude.{slice_get, All}
+use Rattle.std.proofs.lemmas.List.{get_or_default}
 use Rattle.std.proofs.lemmas.List.Elements.{All-append}
+use Rattle.std.proofs.lemmas.Option.{slice_get_read}
 use Rattle.cat_program.specs.Checked.{Checked}
 use Rattle.cost_bounds.specs.BoundsValue.{BoundsValue}
 use Rattle.nv_memory.specs.declared.device.Device.{Device}
 use Rattle.feasibility.specs.declared.choose.ChooseFault.{ChooseFault}
 use Rattle.feasibility.specs.declared.choose.ChooseFault.TheVariants.{WindowTooLong, Rejected, NoMemory}
 use Rattle.degradation.specs.declared.chosen.Chosen.{Chosen}
-use Rattle.degradation.specs.Choice.{supply_of, IsChoice, IsNoChoice}
+use Rattle.degradation.specs.Choice.{supply_of, IsChoice, IsNoChoice, Suits}
 use Rattle.forecast_table.specs.declared.epoch.Epoch.{Epoch}
 use Rattle.forecast_choice.specs.Rows.{fault_at, row_of, supply_in, AreChoices, IsFirstRefused, IsRowFault}
 
@@ -20,7 +22,11 @@ one_at [] i lt = absurd (omega arith)
 one_at (x ∷ xs) zero lt = (x, refl)
 one_at (x ∷ xs) (suc i) lt = one_at xs i (omega arith)
 
-within : {A : Type 0} (xs : List A) (x : A) (i : ℕ) → slice_get xs i ≡ Some x → i < length xs
+-- what is read at a place within stands there
+pub row_here : (rows : List Epoch) (i : ℕ) (d : Epoch) → i < length rows → slice_get rows i ≡ Some (get_or rows i d)
+row_here rows i d lt = slice_get_read rows (length rows) i (get_or rows i d) refl lt (get_or_default rows i d (get_or rows i d) lt)
+
+pub within : {A : Type 0} (xs : List A) (x : A) (i : ℕ) → slice_get xs i ≡ Some x → i < length xs
 within [] x i e = absurd (cc)
 within (y ∷ xs) x zero e = omega arith
 within (y ∷ xs) x (suc i) e = let more = within xs x i e in omega (arith, more)
@@ -35,8 +41,15 @@ behind (z ∷ xs) x y (suc i) e = elim (behind xs x y i e) [
   | inr h ↦ inr (ap suc h.0, h.1)
 ]
 
-same_row : (rows : List Epoch) (i j : ℕ) (r s : Epoch) → i ≡ j → slice_get rows i ≡ Some r → slice_get rows j ≡ Some s → r ≡ s
+pub same_row : (rows : List Epoch) (i j : ℕ) (r s : Epoch) → i ≡ j → slice_get rows i ≡ Some r → slice_get rows j ≡ Some s → r ≡ s
 same_row rows i j r s e a b = cc
+
+suits_alone : (p : Checked) (chosen : Chosen) → Suits p chosen → All (Suits p) (chosen ∷ [])
+suits_alone p chosen suits zero d lt = suits
+suits_alone p chosen suits (suc k) d lt = absurd (omega arith)
+
+pub suits-push : (p : Checked) (found : List Chosen) (chosen : Chosen) → All (Suits p) found → Suits p chosen → All (Suits p) (found ++ chosen ∷ [])
+suits-push p found chosen all suits = All-append (Suits p) found (chosen ∷ []) all (suits_alone p chosen suits)
 
 module _ (p : Checked) (b : BoundsValue) (device : Device) (lines : ℕ) where
   -- the choices for the first n rows
