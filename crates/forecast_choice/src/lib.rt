@@ -4,5 +4,5 @@
 mod law;
 mod rows;
 
-pub use law::one_row_law;
+pub use law::{one_row_law, one_rows_law};
 pub use rows::{RowFault, choose_rows, supply_of};
