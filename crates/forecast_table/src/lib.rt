@@ -3,10 +3,12 @@
 
 mod epoch;
 mod epochs;
+mod laws;
 mod table;
 #[cfg(test)]
 mod tests;
 
 pub use epoch::Epoch;
 pub use epochs::{Forecast, MOST_EPOCHS};
+pub use laws::epochs_law;
 pub use table::{ForecastFault, forecast};
