@@ -6,7 +6,7 @@ use Rattle.std.proofs.Math.ListN.{get_or-append}
 use Rattle.std.proofs.Math.Seq.{get_or-append_seam}
 use Rattle.std.proofs.lemmas.Bool.Decides.{nat_tests}
 use Rattle.std.proofs.lemmas.List.Elements.{All-append}
-use Rattle.cn_tables.specs.Table.{Bad, Fields}
+use Rattle.cn_tables.specs.Table.{Fields}
 use Rattle.cn_tables.specs.declared.fault.RowKind.{RowKind}
 use Rattle.cn_tables.specs.declared.fault.RowKind.TheVariants as kind
 use Rattle.forecast_table.specs.Epochs.{IsEpoch, IsForecast, IsRising}

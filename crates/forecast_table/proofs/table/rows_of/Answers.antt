@@ -1,4 +1,4 @@
-use Rattle.std.proofs.Common.{◌≡◌, ◌∙◌, ◌<◌, Ok, Err, sym, ap, true, false, arith, rules, length, length-append, ◌∷◌, [], refl}
+use Rattle.std.proofs.Common.{◌≡◌, ◌∙◌, ◌<◌, Ok, sym, ap, true, false, arith, rules, length, length-append, ◌∷◌, [], refl}
 use Rattle.std.specs.Result.{is_ok}
 use Rattle.cn_tables.specs.declared.fault.RowKind.TheVariants as kind
 use Rattle.forecast_table.specs.Table.{follows, forecast_step, with_some}

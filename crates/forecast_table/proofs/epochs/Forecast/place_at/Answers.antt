@@ -1,4 +1,4 @@
-use Rattle.std.proofs.Common.{rules, ◌≡◌}
+use Rattle.std.proofs.Common.{rules}
 use Rattle.forecast_table.proofs.InForce.{not_none}
 use Rattle.forecast_table.proofs.epochs.Forecast.place_at.Goals as goal
 
