@@ -1,5 +1,5 @@
 -- The choice of versions for each row of a forecast, and the first row that has none.
-use Rattle.std.specs.Prelude.{◌≡◌, ℕ, ◌+◌, ◌<◌, List, [], ◌∷◌, length, Some, slice_get}
+use Rattle.std.specs.Prelude.{◌≡◌, ℕ, ◌+◌, ◌<◌, List, length, Some, slice_get}
 use Rattle.cat_program.specs.Checked.{Checked}
 use Rattle.cost_bounds.specs.BoundsValue.{BoundsValue}
 use Rattle.nv_memory.specs.declared.device.Device.{Device}
