@@ -1,0 +1,3 @@
+pub mod InForce
+pub mod Steps
+pub mod Staying
