@@ -7,6 +7,7 @@ import collections
 import os
 import re
 import subprocess
+import sys
 
 SECONDS = 120
 CLASSES = ("basic", "memory", "out", "write", "wake")
@@ -60,6 +61,16 @@ def option(words, name, without=None):
     value = words[place + 1]
     del words[place : place + 2]
     return value
+
+
+def asked(words, usual, usage):
+    """Returns what a test of one program, or of one beside another, is asked: its seed, the programs, its number and the
+    folder in which it keeps what differs, if any."""
+    seed, other, kept = option(words, "--seed", "1"), option(words, "--beside"), option(words, "--keep")
+    if len(words) not in (1, 2):
+        sys.exit(usage)
+    number = int(words[1]) if len(words) > 1 else usual
+    return seed, [os.path.abspath(program) for program in (words[0], other) if program], number, kept and os.path.abspath(kept)
 
 
 def flag(words, name):

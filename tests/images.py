@@ -113,16 +113,9 @@ class Images:
 
 
 def main():
-    words = sys.argv[1:]
-    seed = generate.option(words, "--seed", "1")
-    other = generate.option(words, "--beside")
-    kept = generate.option(words, "--keep")
-    if len(words) not in (1, 2):
-        sys.exit(__doc__)
-    rounds = int(words[1]) if len(words) > 1 else 3
-    programs = [os.path.abspath(program) for program in (words[0], other) if program]
+    seed, programs, rounds, kept = generate.asked(sys.argv[1:], 3, __doc__)
     with tempfile.TemporaryDirectory() as folder:
-        images = Images(programs, folder, kept and os.path.abspath(kept))
+        images = Images(programs, folder, kept)
         for row, cut in CASES if rounds > 1 else CASES[-3:]:
             images.row(random.Random(f"{seed} {row} {cut}"), row, cut, rounds)
     for kind, times in sorted(images.counts.items()):

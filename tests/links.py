@@ -262,16 +262,9 @@ class Links:
 
 
 def main():
-    words = sys.argv[1:]
-    seed = generate.option(words, "--seed", "1")
-    other = generate.option(words, "--beside")
-    kept = generate.option(words, "--keep")
-    if len(words) not in (1, 2):
-        sys.exit(__doc__)
-    count = int(words[1]) if len(words) > 1 else 1000
-    programs = [os.path.abspath(program) for program in (words[0], other) if program]
+    seed, programs, count, kept = generate.asked(sys.argv[1:], 1000, __doc__)
     with tempfile.TemporaryDirectory() as folder:
-        links = Links(programs, folder, kept and os.path.abspath(kept))
+        links = Links(programs, folder, kept)
         links.at_the_limits(random.Random(f"{seed} limits"))
         for number in range(count):
             links.case(random.Random(f"{seed} {number}"), f"case {number}")

@@ -206,16 +206,9 @@ def originals(mutants, random, count):
 
 
 def main():
-    words = sys.argv[1:]
-    seed = generate.option(words, "--seed", "1")
-    other = generate.option(words, "--beside")
-    kept = generate.option(words, "--keep")
-    if len(words) not in (1, 2):
-        sys.exit(__doc__)
-    count = int(words[1]) if len(words) > 1 else 1000
-    programs = [os.path.abspath(program) for program in (words[0], other) if program]
+    seed, programs, count, kept = generate.asked(sys.argv[1:], 1000, __doc__)
     with tempfile.TemporaryDirectory() as folder:
-        mutants = Mutants(programs, folder, kept and os.path.abspath(kept))
+        mutants = Mutants(programs, folder, kept)
         source = random.Random(f"{seed} files")
         files = []
         for file in originals(mutants, source, min(200, 10 + count // 50)):

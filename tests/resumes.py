@@ -153,16 +153,9 @@ class Resumes:
 
 
 def main():
-    words = sys.argv[1:]
-    seed = generate.option(words, "--seed", "1")
-    other = generate.option(words, "--beside")
-    kept = generate.option(words, "--keep")
-    if len(words) not in (1, 2):
-        sys.exit(__doc__)
-    every = int(words[1]) if len(words) > 1 else 1
-    programs = [os.path.abspath(program) for program in (words[0], other) if program]
+    seed, programs, every, kept = generate.asked(sys.argv[1:], 1, __doc__)
     with tempfile.TemporaryDirectory() as folder:
-        resumes = Resumes(programs, folder, kept and os.path.abspath(kept))
+        resumes = Resumes(programs, folder, kept)
         for name in ROWS:
             resumes.row(name, every)
         for number in range(240 // every):
