@@ -3,9 +3,10 @@
 
 usage: tests/beside.py PROGRAM OTHER [COUNT] [--seed N] [--keep FOLDER]
 
-Each of COUNT cases (1000) is a random source on a random device, with a random trace, arrivals and failures. Both
+Each of COUNT cases (1000) is a random source on a random device, with a random forecast, trace, arrivals and failures. Both
 programs are asked to run it, to list it, to check it, to plan for it and to replay it some times: without failures, with failures at
-random, in long rows, and in each tick of the writes that the first replay told of. Status and bytes must be the same.
+random, in long rows, and in each tick of the writes that the first replay told of; with and without the forecast. Status and bytes
+must be the same.
 Each case that differs is printed, and kept in FOLDER with both answers. The last lines count the answers by command and
 status, and say 'N passed, M failed'.
 """
@@ -35,7 +36,7 @@ class Beside:
         answers = [generate.run(program, words, self.folder) for program in self.programs]
         first, second = answers
         self.counts[words[0], first.status] += 1
-        if first[:3] == second[:3] and first.status in range(13) and first.status != 4:
+        if first[:3] == second[:3] and first.status in (*range(13), 15) and first.status != 4:
             self.passed += 1
             return first
         self.failed += 1
@@ -59,13 +60,21 @@ class Beside:
             self.ask(label, ["plan", "source", "device"])
             if self.ask(label, ["check", "source", "device"]).status == 0:
                 break
+        self.put(forecast=generate.any_forecast(random, self.files["device"]))
+        self.ask(label, ["check", "source", "device", "forecast"])
         self.put(trace=generate.any_trace(random), arrivals=generate.any_arrivals(random, self.files["source"]), failures=generate.failures([]))
-        first = self.ask(label, generate.REPLAY)
+        self.replays(random, label, generate.REPLAY)
+        self.replays(random, label, [*generate.REPLAY, "forecast"])
+
+    def replays(self, random, label, words):
+        """Replays a case without failures, and with some."""
+        self.put(failures=generate.failures([]))
+        first = self.ask(label, words)
         if first.status not in (0, 12):
             return
         for some, ticks in generate.failing_ticks(random, generate.Report(first.text).marks):
             self.put(failures=generate.any_failures(random, ticks))
-            self.ask(f"{label}, {some} failing", generate.REPLAY)
+            self.ask(f"{label}, {some} failing", words)
 
 
 def main():

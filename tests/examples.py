@@ -4,7 +4,8 @@
 usage: tests/examples.py PROGRAM [NAME..]
 
 An example is a folder examples/NAME with the files NAME.cat, NAME.toml, trace.csv, arrivals.csv, failures.csv and
-report.txt: the report that the program must write when it replays the others, byte for byte. The status must be 12
+report.txt: the report that the program must write when it replays the others, byte for byte, by the forecast in
+forecast.csv where there is one. The status must be 12
 where the report says that the log was full, and else 0. The last line is 'N passed, M failed'.
 """
 import os
@@ -19,6 +20,8 @@ def fault_of(program, name):
     """Replays one example, and says what is wrong with its report, or nothing."""
     folder = os.path.join(EXAMPLES, name)
     words = [f"{name}.cat", f"{name}.toml", "trace.csv", "arrivals.csv", "failures.csv"]
+    if os.path.exists(os.path.join(folder, "forecast.csv")):
+        words.append("forecast.csv")
     lacking = [word for word in [*words, "report.txt", "README.md"] if not os.path.isfile(os.path.join(folder, word))]
     if lacking:
         return f"lacks {', '.join(lacking)}"

@@ -110,6 +110,10 @@ def failures(rows):
     return table("tick,fill", (",".join(map(str, row)) for row in rows))
 
 
+def forecast(rows):
+    return table("tick,p,q", (",".join(map(str, row)) for row in rows))
+
+
 def rows_of(text):
     """The rows of a plain table, numbers as such."""
     rows = [line.split(",") for line in text.split("\n")[1:] if line]
@@ -338,6 +342,19 @@ def any_arrivals(random, text):
     return arrivals(rows)
 
 
+def any_forecast(random, text):
+    """A forecast by a profile: most rows promise about as much as the profile does, and few of them fault."""
+    p, q = (int(re.search(rf"(?m)^{key} = (\d+)", text)[1]) for key in ("p", "q"))
+    ticks = [0] + sorted(random.sample(range(1, random.choice([10, 300, 2000])), random.choice([0, 1, 1, 2, 5])))
+    if random.random() < 0.03:
+        ticks[0] = random.choice([1, 5])
+    rows = []
+    for tick in ticks:
+        times, more = random.choice([1, 1, 2, 3]), random.choice([0, 0, 1, 5, 100])
+        rows.append((tick, p * times, random.choice([q * times, q * times + more, max(0, q * times - more)])))
+    return forecast(rows)
+
+
 def any_failures(random, ticks):
     """Failures in these ticks, each with a fill of its own."""
     return failures((tick, fill(random)) for tick in sorted(set(ticks)) if 0 <= tick < 1000000)
@@ -366,13 +383,16 @@ End = collections.namedtuple("End", "tick stored steps why")
 
 
 class Report:
-    """The lines of a report, of `check` or of `replay`, by their kinds."""
+    """The lines of a report, of `check` or of `replay`, by their kinds. With a forecast the versions and numbers are the last row's."""
 
     def __init__(self, text):
         self.versions, self.numbers, self.dropped, self.marks, self.log, self.end, self.vars = {}, {}, [], [], [], None, {}
+        self.forecast = []
         for line in text.decode().splitlines():
             kind, *words = line.split(" ")
-            if kind == "version":
+            if kind == "forecast":
+                self.forecast.append(tuple(map(int, words)))
+            elif kind == "version":
                 self.versions[words[0]] = Version(int(words[1]), int(words[3]), int(words[5]))
             elif kind == "numbers":
                 self.numbers = {name: int(value) for name, value in zip(words[::2], words[1::2])}

@@ -40,10 +40,11 @@ FILE_LIMIT = 16777216
 
 NAME = r"[A-Za-z_]\w{0,30}"
 CHOSEN = rf"(?:version {NAME} \d units \d+ ticks \d+\n)*numbers lines \d+ checkpoint \d+ section \d+ reserve \d+ level \d+ window \d+\n"
+CHOICES = rf"(?:{CHOSEN}|(?:forecast \d+ \d+ \d+\n{CHOSEN}){{1,64}})"
 LIFE = rf"(?:dropped \d+ {NAME}\n)*(?:lost \d+\n|(?:boot|commit) \d+ \d+ \d+\n)*"
 LOG = rf"(?:out \d+ -?\d+\n|ran {NAME} \d+ \d \d+ \d+ (?:%s)\n)*"
 DONE = r"\d+ (?:met|late)"
-REPORT = CHOSEN + LIFE + LOG + rf"end \d+ \d+ \d+ %s\n(?:var {NAME}(?: -?\d+)+\n)*"
+REPORT = CHOICES + LIFE + LOG + rf"end \d+ \d+ \d+ %s\n(?:var {NAME}(?: -?\d+)+\n)*"
 CONDITIONS = """BadNumber TooManyVars TooManyEvents TooManyTasks TooManyVersions Twice Unknown WrongType WhileInEvent RepeatInTask PayloadInTask
 DeadlineTooLong DegradeTooOften StackTooDeep HandlerTooLong CodeTooLong""".split()
 SOURCE_KINDS = ["TooLong", "BadByte", "IntTooLarge", "NameTooLong", "TooDeep", "Syntax", *CONDITIONS]
@@ -56,16 +57,17 @@ FAULTS = {
     7: r"fault trace \d+ (?:Long|Header|Fields|Number|Range|Total)\n",
     8: r"fault arrivals \d+ (?:Long|Header|Many|Fields|Number|Range|Name|Order)\n",
     9: r"fault fails \d+ (?:Long|Header|Many|Fields|Number|Range|Fill|Order)\n",
-    10: r"fault window \d+\n",
-    11: rf"fault rejected {FAILING}\n",
+    10: r"fault window (?:[1-9]\d? )?\d+\n",
+    11: rf"fault rejected (?:[1-9]\d? )?{FAILING}\n",
     14: r"fault image (?:Head|Size|Tick|Stored|Slot|Steps|Place|Record|Done|Schedule|State) \d+\n",
+    15: r"fault forecast \d+ (?:Long|Header|Few|Many|Fields|Number|Range|Order)\n",
     16: r"fault object (?:Form 0|(?:Operand|Region|Stack|Loop|Long) \d+)\n",
     17: r"fault link \d+ (?:Long|Header|Many|Fields|Number|Name|Range)\n",
 }
 TEXTS = {
     **{command: {0: r"(?:out \d+ -?\d+\n)*steps \d+\n"} for command in ("run", "runobject")},
     "list": {0: rf"(?:(?:task {NAME}|event {NAME} \d) \d+\n|\d+ [a-z]+(?: \d+)*\n)*"},
-    "check": {0: CHOSEN},
+    "check": {0: CHOICES},
     "object": {0: r"(?s:CNO1.{8,})"},
     "plan": {0: rf"plan (?:none {FAILING}\n|\d+\n{CHOSEN}below (?:none|{FAILING})\n)"},
     "replay": {0: REPORT % (DONE, "trace"), 12: REPORT % (DONE, "log")},
@@ -74,8 +76,8 @@ TEXTS = {
     "uplink": {status: rf"link \d+ \d+ \d+\nrounds \d+\n(?:out \d+ -?\d+\n|ran {NAME} \d+ \d \d+\n)*" for status in (0, 12)},
     "bench": {0: r"bench \d+\nticks \d+\nran \d+\nmet \d+\nlost \d+\ndropped \d+\nouts \d+\nend \d+ trace\n"},
 }
-REFUSED = {"run": (2, 3, 5), "list": (2, 3, 5), "object": (2, 3, 5), "check": (2, 3, 5, 6, 10, 11), "plan": (2, 3, 5, 6, 10), "bench": (2,)}
-REFUSED |= {"replay": (2, 3, 5, 6, 7, 8, 9, 10, 11), "image": (2, 3, 5, 6, 7, 8, 9, 10, 11), "uplink": (2, 3, 5, 6, 7, 8, 9, 10, 11, 17)}
+REFUSED = {"run": (2, 3, 5), "list": (2, 3, 5), "object": (2, 3, 5), "check": (2, 3, 5, 6, 10, 11, 15), "plan": (2, 3, 5, 6, 10), "bench": (2,)}
+REFUSED |= {"replay": (2, 3, 5, 6, 7, 8, 9, 10, 11, 15), "image": (2, 3, 5, 6, 7, 8, 9, 10, 11), "uplink": (2, 3, 5, 6, 7, 8, 9, 10, 11, 17)}
 REFUSED |= {"resume": (2, 3, 5, 6, 7, 8, 9, 10, 11, 14), "runobject": (2, 3, 16)}
 # the texts of each command by their statuses; words of no command have one
 WHOLE = {None: {2: re.compile(FAULTS[2].encode())}}
@@ -92,12 +94,14 @@ for name, example in (("device", "node.toml"), ("trace", "node-trace.csv"), ("ar
     with open(os.path.join(TOP, "examples", example), "rb") as file:
         FILES[name] = file.read()
 FILES["link"] = b"step,n\ngrow,4\nsend,0\nsend,0\ndata,1\ndata,0\ndata,0\nack,1\nrestart,0\nack,0\nsend,0\ndata,1\n"
+FILES["forecast"] = b"tick,p,q\n0,100,30\n300,100,25\n600,50,20\n"
 FORMS = [["run", "source", "100"], ["list", "source"], ["check", "source", "device"], generate.REPLAY]
 FORMS += [["object", "source"], ["plan", "source", "device"], ["image", *generate.REPLAY[1:]]]
 RESUME, RUN_OBJECT = ["resume", *generate.REPLAY[1:], "saved"], ["runobject", "compiled", "100"]
-FORMS += [RESUME, RUN_OBJECT, ["uplink", *generate.REPLAY[1:], "link"]]
+CHECK_FORECAST, REPLAY_FORECAST = ["check", "source", "device", "forecast"], [*generate.REPLAY, "forecast"]
+FORMS += [CHECK_FORECAST, REPLAY_FORECAST, RESUME, RUN_OBJECT, ["uplink", *generate.REPLAY[1:], "link"]]
 # what the short form tries of each kind of file: all files of one command, and those that others read alone
-SHORT = [(FORMS[-1], place) for place in range(1, 7)] + [(RESUME, 6), (RUN_OBJECT, 1)]
+SHORT = [(FORMS[-1], place) for place in range(1, 7)] + [(REPLAY_FORECAST, 6), (RESUME, 6), (RUN_OBJECT, 1)]
 
 
 def short_or_all(short):
@@ -215,7 +219,8 @@ def odd_words(tests, short):
     """Words of no form, and files that come through a pipe."""
     lists = [[], [""], ["run"], ["run", "source"], ["run", "source", "1", "1"], ["Run", "source", "1"], ["run\n", "source", "1"], ["-h"], ["--version"]]
     lists += [RESUME[:-1], [*RESUME, "saved"], ["runobject", "compiled"], ["runobject", "compiled", "1000001"], ["runobject", "compiled", "1", "1"]]
-    lists += [["list"], ["list", "source", "source"], ["check", "source"], generate.REPLAY[:-1], [*generate.REPLAY, "source"], ["replay"] + [""] * 6]
+    lists += [["list"], ["list", "source", "source"], ["check", "source"], [*CHECK_FORECAST, "source"], generate.REPLAY[:-1]]
+    lists += [[*REPLAY_FORECAST, "source"], ["replay"] + [""] * 7]
     lists += [["x" * 100000], ["run"] * 10000, ["list", "\udcff"], ["\udcc3("]]
     for words in lists:
         tests.look(f"words {str(words)[:60]}", words, (2, b"fault usage\n"))
@@ -392,6 +397,7 @@ LONG = {
     "trace": (7, b"fault trace 0 Long\n"),
     "arrivals": (8, b"fault arrivals 0 Long\n"),
     "failures": (9, b"fault fails 0 Long\n"),
+    "forecast": (15, b"fault forecast 0 Long\n"),
     "link": (17, b"fault link 0 Long\n"),
     "saved": (14, b"fault image Size %d\n" % (FILE_LIMIT + 1)),
     "compiled": (16, b"fault object Form 0\n"),
@@ -528,6 +534,7 @@ TABLES = {
     "trace": (3, "ticks,harvest,extra,sample", "10,1,0,0", [(1, 1000000), (0, 1000000), (0, 1000000), (-(2**31), 2**31 - 1)], 7),
     "arrivals": (4, "tick,event,payload", "10,press,0", [(0, 999999), None, (-(2**31), 2**31 - 1)], 8),
     "failures": (5, "tick,fill", "10,00", [(0, 999999), None], 9),
+    "forecast": (6, "tick,p,q", "0,100,30", [None, (1, 1000000), (0, 1000000)], 15),
 }
 
 
@@ -535,9 +542,10 @@ def tables(tests, short):
     words = FORMS[3]
     for name, (place, header, row, ranges, status) in TABLES.items():
         kind = "fails" if name == "failures" else name
+        form = REPLAY_FORECAST if name == "forecast" else words
 
         def look(label, text, wanted=None):
-            tests.look_at_file(label, words, place, text.encode() if isinstance(text, str) else text, wanted)
+            tests.look_at_file(label, form, place, text.encode() if isinstance(text, str) else text, wanted)
 
         fields = row.split(",")
         for column, bounds in enumerate(ranges):

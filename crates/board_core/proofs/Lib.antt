@@ -2,8 +2,10 @@ pub mod Fates
 pub mod Passing
 pub mod Outlooks
 pub mod ModelLemmas
+pub mod Foreseen
 pub mod Sleeping
 pub mod RecordLemmas
 pub mod MarkLemmas
 pub mod Ruled
 pub mod Same
+pub mod Zeros

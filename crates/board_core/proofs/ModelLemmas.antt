@@ -131,7 +131,7 @@ module _ (law : OperationsAreBounded) (o : ModelOrigin) (image : List ℕ) (es :
       (omega (arith, many, bounded.no_more_ticks))
       bytes
 
-fits_not_over : (life n : ℕ) → n ≤ life → nat_lt life n ≡ false
+pub fits_not_over : (life n : ℕ) → n ≤ life → nat_lt life n ≡ false
 fits_not_over life n le = grind (arith, nat_tests)
 
 pub next_after : (o : ModelOrigin) (s : State) (op : Op) → s.tick + ticks_of s.ticks op ≤ s.life → model_next o s op ≡ model_after o s op
@@ -245,6 +245,7 @@ first_sound law o small bytes =
       in_life = o.in_life;
       life_in_range = o.life_in_range;
       in_cap = o.in_cap;
+      losses_are = refl;
       losses_by_tick = omega arith;
       entries_by_tick = omega arith;
       some_ticks = law.some o.device;

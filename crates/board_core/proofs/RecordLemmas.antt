@@ -1,5 +1,5 @@
 -- The entries for which records stand, and where each of them is found.
-use Rattle.std.proofs.Common.{◌≡◌, ℕ, zero, suc, ◌+◌, ◌-◌, ◌*◌, ◌≤◌, ◌<◌, ◌≢◌, min, false, List, [], ◌∷◌, ◌++◌, length, get_or, take, drop, Some, refl, sym, ◌∙◌, ap, subst, arith, length-append, length-drop}
+use Rattle.std.proofs.Common.{◌≡◌, ℕ, zero, suc, ◌+◌, ◌-◌, ◌*◌, ◌≤◌, ◌<◌, ◌≢◌, min, false, true, inl, inr, ◌⊎◌, List, [], ◌∷◌, ◌++◌, length, get_or, take, drop, Some, refl, sym, ◌∙◌, ap, subst, arith, length-append, length-drop}
 use Rattle.std.proofs.Math.Nat.{suc-mul}
 use Rattle.std.proofs.Math.Seq.{drop-append_seam}
 use Rattle.std.specs.Prelude.{flat_map, slice_get}
@@ -7,18 +7,19 @@ use Rattle.std.specs.List.{All}
 use Rattle.std.specs.List.Sorted.{IsNonDecreasing, IsPartitionPoint}
 use Rattle.std.proofs.lemmas.List.{append-nil, take-append-le, drop-append-le, get_or_default}
 use Rattle.std.proofs.lemmas.Grind.{flat_map-append}
+use Rattle.std.proofs.lemmas.Bool.{cases_lt}
 use Rattle.std.proofs.lemmas.Option.{slice_get_within}
 use Rattle.std.proofs.lemmas.List.Elements.{All-append}
 use Rattle.nv_memory.specs.declared.entry.Entry.{Entry}
 use Rattle.nv_memory.specs.declared.entry.Op.{Op}
 use Rattle.nv_memory.specs.declared.entry.Op.TheVariants as op
-use Rattle.nv_memory.specs.Asleep.{IsAsleep}
+use Rattle.nv_memory.specs.Silent.{IsSilent}
 use Rattle.nv_memory.specs.Bytes.{bytes_at}
 use Rattle.board_core.specs.declared.record.What.{What}
 use Rattle.board_core.specs.declared.record.What.TheVariants as what
 use Rattle.board_core.specs.declared.record.Record.{Record}
 use Rattle.board_core.specs.declared.record.Record.TheVariants.{Did, Slept}
-use Rattle.board_core.specs.Records.{IsHeld, IsKept, ends_from, entries_by, left_end, op_of, record_end, sleep_stored, sleeps, width}
+use Rattle.board_core.specs.Records.{IsHeld, IsKept, ends_from, entries_by, is_silent, left_end, op_of, record_end, sleep_stored, sleeps, width}
 
 -- bytes that stand at the end
 pub bytes_at-appended : (left bytes : List ℕ) → bytes_at (length left) (length bytes) (left ++ bytes) ≡ bytes
@@ -273,45 +274,104 @@ shown_at cap left rs ends count i place r end wide h most point within r_is end_
       entry = found.entry ∙ ap (λ (x : Record). slice_get (entries_by cap left x) (place - begin)) (sym r_is) ∙ ap (λ (n : ℕ). slice_get (entries_by cap left r) (place - n)) (sym start);
     }
 
--- each entry from a place on, up to the end of the sleep in which it is
-module _ (cap : ℕ) (left : List ℕ) (rs : List Record) (ends : List ℕ) (count i place tick stored harvest ticks end : ℕ) (h : IsKept cap rs ends left count) (most : i ≤ length ends)
-    (point : IsPartitionPoint (λ end. end ≤ place) (λ end. place < end) ends i) (within : place < length (flat_map (entries_by cap left) rs))
-    (r_is : Slept tick stored harvest ticks ≡ get_or rs i (Slept tick stored harvest ticks)) (end_is : end ≡ get_or ends i end) where
-  abbrev slept : Record
-  slept = Slept tick stored harvest ticks
+-- the entries of a silent record are silent
+silent-in : (cap : ℕ) (left : List ℕ) (r : Record) (k : ℕ) → is_silent r ≡ true → sleep_stored r ≤ cap → k < width r → IsSilent (entries_by cap left r) k
+silent-in cap left (Did tick stored drawn ticks true (what.Instr kind pc)) k is in_cap within = absurd (cc)
+silent-in cap left (Did tick stored drawn ticks false (what.Instr kind pc)) zero is in_cap within =
+    record { entry = record { tick = tick; stored = stored; drawn = drawn; ticks = ticks; op = op.Instr kind pc; lost = false }; at = refl; done = refl; silent = inr (kind, pc, refl) }
+silent-in cap left (Did tick stored drawn ticks false (what.Instr kind pc)) (suc k) is in_cap within = absurd (omega arith)
+silent-in cap left (Did tick stored drawn ticks lost (what.Emit pc at from len)) k is in_cap within = absurd (cc)
+silent-in cap left (Did tick stored drawn ticks lost (what.Write at from len)) k is in_cap within = absurd (cc)
+silent-in cap left (Did tick stored drawn ticks lost what.Wake) k is in_cap within = absurd (cc)
+silent-in cap left (Did tick stored drawn ticks lost what.Sleep) k is in_cap within = absurd (cc)
+silent-in cap left (Slept tick stored harvest ticks) k is in_cap within = record {
+  entry = record { tick = tick + k; stored = min cap (stored + k * harvest); drawn = 0; ticks = 1; op = op.Sleep; lost = false };
+  at = sleep_at cap tick stored harvest ticks k in_cap within;
+  done = refl;
+  silent = inl refl;
+}
 
-  here : IsFound cap left rs ends i place slept
-  here = found_at cap left rs ends count i place slept h most point within
+-- the entries from a place up to the beginning of a record are silent
+pub record IsSilentTo (cap : ℕ) (left : List ℕ) (rs : List Record) (ends : List ℕ) (place nth end : ℕ) : Type 0 where
+  pub within : nth ≤ length rs
+  pub begins : get_or (0 ∷ ends) nth 0 ≤ end
+  pub later : place ≤ end
+  pub behind : (k d : ℕ) → nth ≤ k → k < length ends → place < get_or ends k d
+  pub upto : end ≤ length (flat_map (entries_by cap left) rs)
+  pub each : (k : ℕ) → place ≤ k → k < end → IsSilent (flat_map (entries_by cap left) rs) k
 
-  last : end ≡ get_or ends i 0
-  last = end_is ∙ get_or_default ends i end 0 (omega (arith, length_of_ends cap rs ends left count h, here.inside))
+-- none are looked at yet
+pub silent_none : (cap : ℕ) (left : List ℕ) (rs : List Record) (ends : List ℕ) (count nth place : ℕ) → IsKept cap rs ends left count → nth ≤ length ends
+    → IsPartitionPoint (λ end. end ≤ place) (λ end. place < end) ends nth → place < length (flat_map (entries_by cap left) rs) → IsSilentTo cap left rs ends place nth place
+silent_none cap left rs ends count nth place h most point within = record {
+  within = omega (arith, most, length_of_ends cap rs ends left count h);
+  begins = from_point ends place nth point.0;
+  later = omega arith;
+  behind = point.1;
+  upto = omega (arith, within);
+  each = λ k from until. absurd (omega (arith, from, until));
+}
 
-  pub slept_behind : place < end
-  slept_behind = omega (arith, last, here.until)
+-- one silent record more
+module _ (cap : ℕ) (left : List ℕ) (rs : List Record) (ends : List ℕ) (count place nth end end' : ℕ) (r : Record) (h : IsKept cap rs ends left count) (so_far : IsSilentTo cap left rs ends place nth end)
+    (inside : nth < length rs) (r_is : r ≡ get_or rs nth r) (silent : is_silent r ≡ true) (end_is : end' ≡ get_or ends nth end') where
+  abbrev begin : ℕ
+  begin = get_or (0 ∷ ends_from 0 rs) nth 0
 
-  pub slept_at : (k : ℕ) → place ≤ k → k < end → IsAsleep (flat_map (entries_by cap left) rs) k
-  slept_at k from until =
-      let begin = get_or (0 ∷ ends_from 0 rs) i 0 in
-      let e = h.ends_are in
-      let begun : begin ≤ k = omega (arith, from, subst (λ (l : List ℕ). get_or (0 ∷ l) i 0 ≤ place) e here.begun) in
-      let ended : k < get_or (ends_from 0 rs) i 0 = subst (λ (l : List ℕ). k < get_or l i 0) e (omega (arith, until, last)) in
-      let first : begin + ticks ≡ get_or (ends_from 0 rs) i 0 = ap (λ (r : Record). begin + width r) r_is ∙ first_of 0 rs i slept here.inside in
-      let stored_in : stored ≤ cap = subst (λ (r : Record). sleep_stored r ≤ cap) (sym r_is) (h.held i slept here.inside).in_cap in
+  last : end' ≡ get_or ends nth 0
+  last = end_is ∙ get_or_default ends nth end' 0 (omega (arith, length_of_ends cap rs ends left count h, inside))
+
+  held : IsHeld cap (length left) r
+  held = subst (λ (x : Record). IsHeld cap (length left) x) (sym r_is) (h.held nth r inside)
+
+  first : begin + width r ≡ end'
+  first =
+      ap (λ (x : Record). begin + width x) r_is
+      ∙ first_of 0 rs nth r inside
+      ∙ ap (λ (l : List ℕ). get_or l nth 0) (sym h.ends_are)
+      ∙ sym last
+
+  begun : begin ≤ end
+  begun = subst (λ (l : List ℕ). get_or (0 ∷ l) nth 0 ≤ end) h.ends_are so_far.begins
+
+  in_record : (k : ℕ) → end ≤ k → k < end' → IsSilent (flat_map (entries_by cap left) rs) k
+  in_record k from until =
+      let one = silent-in cap left r (k - begin) silent held.in_cap (omega (arith, begun, from, until, first)) in
+      let until' : k < get_or (ends_from 0 rs) nth 0 = subst (λ (l : List ℕ). k < get_or l nth 0) h.ends_are (omega (arith, until, last)) in
       let z : k ≡ k - 0 = omega arith in
       record {
-        entry = record { tick = tick + (k - begin); stored = min cap (stored + (k - begin) * harvest); drawn = 0; ticks = 1; op = op.Sleep; lost = false };
+        entry = one.entry;
         at = ap (slice_get (flat_map (entries_by cap left) rs)) z
-            ∙ entry_in cap left 0 rs i k slept here.inside begun ended
-            ∙ ap (λ (r : Record). slice_get (entries_by cap left r) (k - begin)) (sym r_is)
-            ∙ sleep_at cap tick stored harvest ticks (k - begin) stored_in (omega (arith, begun, ended, first));
-        sleep = refl;
-        passed = refl;
+            ∙ entry_in cap left 0 rs nth k r inside (omega (arith, begun, from)) until'
+            ∙ ap (λ (x : Record). slice_get (entries_by cap left x) (k - begin)) (sym r_is)
+            ∙ one.at;
+        done = one.done;
+        silent = one.silent;
       }
 
-  pub slept_within : end ≤ length (flat_map (entries_by cap left) rs)
-  slept_within =
-      let one = slept_at (end - 1) (omega (arith, slept_behind)) (omega (arith, slept_behind)) in
-      omega (arith, slice_get_within (flat_map (entries_by cap left) rs) (end - 1) one.entry one.at)
+  by_half : (k : ℕ) → place ≤ k → k < end' → (k < end) ⊎ (end ≤ k) → IsSilent (flat_map (entries_by cap left) rs) k
+  by_half k from until (inl early) = so_far.each k from early
+  by_half k from until (inr late) = in_record k late until
+
+  silent-each : (k : ℕ) → place ≤ k → k < end' → IsSilent (flat_map (entries_by cap left) rs) k
+  silent-each k from until = by_half k from until (cases_lt k end)
+
+  behind_place : place < end'
+  behind_place = omega (arith, last, so_far.behind nth 0 (omega arith) (omega (arith, length_of_ends cap rs ends left count h, inside)))
+
+  pub silent_more : IsSilentTo cap left rs ends place (nth + 1) end'
+  silent_more =
+      let one = silent-each (end' - 1) (omega (arith, behind_place)) (omega (arith, behind_place)) in
+      let next : nth + 1 ≡ suc nth = omega arith in
+      let begin_is : get_or (0 ∷ ends) (nth + 1) 0 ≡ get_or ends nth 0 = ap (λ n. get_or (0 ∷ ends) n 0) next in
+      record {
+        within = omega (arith, inside);
+        begins = omega (arith, begin_is, last);
+        later = omega (arith, behind_place);
+        behind = λ k d from inside. so_far.behind k d (omega (arith, from)) inside;
+        upto = omega (arith, behind_place, slice_get_within (flat_map (entries_by cap left) rs) (end' - 1) one.entry one.at);
+        each = silent-each;
+      }
 
 -- what stands after one record more
 pub record IsPushed (cap : ℕ) (rs rs' : List Record) (ends' left left' : List ℕ) (count : ℕ) (r : Record) : Type 0 where

@@ -7,3 +7,5 @@ pub mod Records
 pub mod Kept
 pub mod ModelBoardState
 pub mod Laws
+pub mod Sure
+pub mod Run

@@ -1,5 +1,5 @@
 -- The entries for which the records of a timeline stand.
-use Rattle.std.specs.Prelude.{◌≡◌, ◌⊎◌, ℕ, zero, suc, ◌+◌, ◌*◌, ◌<◌, ◌≤◌, min, get_or, List, [], ◌∷◌, length, false, All}
+use Rattle.std.specs.Prelude.{◌≡◌, ◌⊎◌, ℕ, zero, suc, ◌+◌, ◌*◌, ◌<◌, ◌≤◌, min, get_or, List, [], ◌∷◌, length, Bool, true, false, not, All}
 use Rattle.std.specs.List.Sorted.{IsPartitionPoint}
 use Rattle.cn_base.specs.declared.TheConstants.{MOST_TICKS}
 use Rattle.nv_memory.specs.declared.entry.Entry.{Entry}
@@ -35,6 +35,15 @@ entries_by cap left (Slept tick stored harvest ticks) = sleeps cap tick stored h
 abbrev pub width : Record → ℕ
 width (Did tick stored drawn ticks lost done) = 1
 width (Slept tick stored harvest ticks) = ticks
+
+-- whether all of them are silent: ticks of sleep, or an instruction without an output that was done
+abbrev pub is_silent : Record → Bool
+is_silent (Did tick stored drawn ticks lost (what.Instr class pc)) = not lost
+is_silent (Did tick stored drawn ticks lost (what.Emit pc at from len)) = false
+is_silent (Did tick stored drawn ticks lost (what.Write at from len)) = false
+is_silent (Did tick stored drawn ticks lost what.Wake) = false
+is_silent (Did tick stored drawn ticks lost what.Sleep) = false
+is_silent (Slept tick stored harvest ticks) = true
 
 -- how many entries there are up to each record and with it, where there are `start` before the first
 unfoldable pub ends_from : ℕ → List Record → List ℕ

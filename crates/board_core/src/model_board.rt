@@ -1,4 +1,4 @@
-ghost use Rattle.std.specs.Prelude.{◌≡◌, ◌≢◌, ◌⊎◌, ◌+◌, ◌-◌, ◌*◌, min, ◌<◌, ◌≤◌, length, true, false, IfOk, ℕ};
+ghost use Rattle.std.specs.Prelude.{◌≡◌, ◌≢◌, ◌⊎◌, ◌+◌, ◌-◌, ◌*◌, min, ◌<◌, ◌≤◌, length, true, false, IfOk, IfSome, ℕ, slice_index};
 ghost use Rattle.std.specs.Option.{is_some};
 ghost use Rattle.cn_base.specs.declared.TheConstants.{MOST_TICKS};
 ghost use Rattle.nv_memory.specs.declared.board.Answer.TheVariants.{Done};
@@ -10,10 +10,15 @@ ghost use Rattle.board_core.specs.Kept.{entries_of, room_of};
 ghost use Rattle.board_core.specs.Outlook.{IsOutlook};
 ghost use Rattle.board_core.specs.ModelState.{model_state};
 ghost use Rattle.board_core.specs.Reached.{IsReached, model_start, slept};
+ghost use Rattle.board_core.specs.Run.{IsRun};
+ghost use Rattle.board_core.specs.Sure.{IsSure, write_class, write_of};
+ghost use Rattle.nv_memory.specs.Bytes.{written};
 
 use crate::ModelOrigin;
 use crate::fate::Fate;
+use crate::first_image::FirstImage;
 use crate::outlook::Outlook;
+use crate::sure::Sure;
 use crate::timeline::Timeline;
 use cn_base::{Fill, MOST_TICKS, NoMemory};
 use harvest_trace::{Fails, Trace};
@@ -60,6 +65,15 @@ fn ticks_to(cap: u32, stored: u32, harvest: u32, enough: u32, most: u32) -> u32
     (enough - stored).div_ceil(harvest).min(most)
 }
 
+// Puts bytes into the image.
+fn put_bytes(image: &mut Vec<u8>, at: usize, bytes: &[u8])
+    requires { at + length bytes.now ≤ length image.old.items }
+    ensures image { image.new.items ≡ written at bytes.now image.old.items }
+    ensures bytes { (k : ℕ) → slice_index image.new.items k < 256 }
+{
+    image[at..at + bytes.len()].copy_from_slice(bytes);
+}
+
 // The operation, with the bytes of the fill over and over where it is lost.
 fn left_by(torn: Option<Fill>, op: Op) -> Op
     ensures { result ≡ spec.left_by torn op }
@@ -77,6 +91,7 @@ impl ModelBoard {
     ghost use Rattle.board_core.specs.Onward.{Onward};
     ghost use Rattle.board_core.specs.Rules.{model_next, model_answer, model_after, fate_answer, fate_of, harvests};
     ghost use Rattle.board_core.specs.Reached.{first_state};
+    ghost use Rattle.nv_memory.specs.declared.entry.Op.TheVariants as op;
 
     /// A board at tick 0 and off, with the device's first units stored, no entries and no losses, whose life is that of
     /// the trace. It takes all memory that it will ever need, a copy of the image included.
@@ -119,10 +134,7 @@ impl ModelBoard {
         ensures state { IfOk result (λ b. state_of b ≡ first_state (origin_of b)) }
     {
         operations_are_bounded();
-        let first = match image.to_vec(alloc) {
-            Ok(first) => first,
-            Err(_) => return Err(NoMemory),
-        };
+        let first = FirstImage::of(alloc, image.as_slice())?;
         let timeline = Timeline::with_room(alloc, trace.life(), device.cap)?;
         Ok(ModelBoard {
             origin: ModelOrigin::of(trace, fails, device, tick, stored, first),
@@ -245,6 +257,64 @@ impl ModelBoard {
         self.settle(fate, stored, op)
     }
 
+    // What an operation of a class does, where the outlook tells that it is done for certain.
+    fn surely(&self, class: Class) -> Option<Sure>
+        ensures { IfSome result (IsSure self.now.origin self.now.outlook self.now.tick self.now.stored class) }
+    {
+        let cost = self.origin.device.cost(class);
+        let end = self.tick + cost.ticks;
+        if self.outlook.until < end || self.outlook.failure < end {
+            return None;
+        }
+        let drawn = cost.actual + self.outlook.extra;
+        if self.stored < drawn {
+            return None;
+        }
+        let left = refilled(
+            self.origin.device.cap,
+            self.stored - drawn,
+            cost.ticks,
+            self.outlook.harvest,
+        );
+        Some(Sure {
+            drawn,
+            ticks: cost.ticks,
+            left,
+        })
+    }
+
+    // Runs an instruction that is done for certain. No operation is made for it.
+    fn run_surely(&mut self, sure: Sure, class: Class, pc: u32)
+        requires { IsSure self.old.origin self.old.outlook self.old.tick self.old.stored class sure }
+        ensures run { IsRun self.old.origin (state_of self.old) (state_of self.new) (op.Instr class pc) }
+        ensures origin { self.new.origin ≡ self.old.origin }
+    {
+        operations_are_bounded();
+        boards_stay_sound();
+        self.timeline
+            .push_instr(self.tick, self.stored, sure, class, pc);
+        self.tick += sure.ticks;
+        self.stored = sure.left;
+    }
+
+    // Does a write that is done for certain, by the instruction at a place of the code or by none. Its bytes go straight
+    // to the image and to the timeline.
+    fn write_surely(&mut self, sure: Sure, pc: Option<u32>, at: u32, bytes: &[u8])
+        requires sure { IsSure self.old.origin self.old.outlook self.old.tick self.old.stored (write_class pc) sure }
+        requires few { length bytes.now ≤ 64 }
+        requires in_image { at + length bytes.now ≤ length self.old.image.items }
+        ensures run { IsRun self.old.origin (state_of self.old) (state_of self.new) (write_of pc at bytes.now) }
+        ensures origin { self.new.origin ≡ self.old.origin }
+    {
+        operations_are_bounded();
+        boards_stay_sound();
+        put_bytes(&mut self.image, at as usize, bytes);
+        self.timeline
+            .push_write(self.tick, self.stored, sure, pc, at, bytes);
+        self.tick += sure.ticks;
+        self.stored = sure.left;
+    }
+
     // Any operation but sleep. `Over` is looked at first.
     fn perform(&mut self, op: Op) -> Answer
         requires awake { op ≢ Sleep }
@@ -321,8 +391,8 @@ impl Board for ModelBoard {
         self.timeline.entry(place)
     }
 
-    fn resting(&self, place: u32) -> u32 {
-        self.timeline.resting(place)
+    fn silent(&self, place: u32) -> u32 {
+        self.timeline.silent(place)
     }
 
     fn run(&mut self, class: Class, pc: u32) -> Answer
@@ -333,6 +403,10 @@ impl Board for ModelBoard {
         ensures state { state_of self.new ≡ model_next (origin_of self.old) (state_of self.old) (op.Instr class pc) }
         ensures answer { result ≡ model_answer (origin_of self.old) (state_of self.old) (op.Instr class pc) }
     {
+        if let Some(sure) = self.surely(class) {
+            self.run_surely(sure, class, pc);
+            return Answer::Done;
+        }
         self.perform(Op::Instr { class, pc })
     }
 
@@ -347,6 +421,10 @@ impl Board for ModelBoard {
         ensures state { state_of self.new ≡ model_next (origin_of self.old) (state_of self.old) (op.Emit pc at bytes.now) }
         ensures answer { result ≡ model_answer (origin_of self.old) (state_of self.old) (op.Emit pc at bytes.now) }
     {
+        if let Some(sure) = self.surely(Class::Out) {
+            self.write_surely(sure, Some(pc), at, bytes);
+            return Answer::Done;
+        }
         let left = Line::of(bytes);
         self.perform(Op::Emit { pc, at, left })
     }
@@ -362,6 +440,10 @@ impl Board for ModelBoard {
         ensures state { state_of self.new ≡ model_next (origin_of self.old) (state_of self.old) (op.Write at bytes.now) }
         ensures answer { result ≡ model_answer (origin_of self.old) (state_of self.old) (op.Write at bytes.now) }
     {
+        if let Some(sure) = self.surely(Class::Write) {
+            self.write_surely(sure, None, at, bytes);
+            return Answer::Done;
+        }
         let left = Line::of(bytes);
         self.perform(Op::Write { at, left })
     }

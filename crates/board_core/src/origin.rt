@@ -1,10 +1,11 @@
-ghost use Rattle.std.specs.Prelude.{◌≡◌, ◌≢◌, ◌+◌, ◌<◌, ◌≤◌, ◌-◌, min, ℕ, slice_index, IfSome};
+ghost use Rattle.std.specs.Prelude.{◌≡◌, ◌≢◌, ◌+◌, ◌<◌, ◌≤◌, ◌-◌, min, IfSome};
 ghost use Rattle.cn_base.specs.declared.TheConstants.{MOST_TICKS};
 ghost use Rattle.harvest_trace.specs.Timeline.{life_of};
 
 use crate::fate::Fate;
+use crate::first_image::FirstImage;
 use crate::outlook::Outlook;
-use cn_base::{List, MOST_TICKS};
+use cn_base::MOST_TICKS;
 use harvest_trace::{Fails, Failure, Trace};
 use nv_memory::{Device, Op, refilled};
 
@@ -16,7 +17,7 @@ pub struct ModelOrigin {
     pub device: Device,
     pub tick: u32,
     pub stored: u32,
-    pub image: List<u8>,
+    pub image: FirstImage,
     ghost life_in_range: { life_of trace ≤ MOST_TICKS },
     ghost in_life: { tick ≤ life_of trace },
     ghost in_cap: { stored ≤ device.cap },
@@ -35,7 +36,7 @@ impl ModelOrigin {
         device: Device,
         tick: u32,
         stored: u32,
-        image: Vec<u8>,
+        image: FirstImage,
     ) -> ModelOrigin
         requires in_life { tick ≤ life_of trace }
         requires in_cap { stored ≤ device.cap }
@@ -44,8 +45,7 @@ impl ModelOrigin {
         ensures device { result.device ≡ device }
         ensures tick { result.tick ≡ tick }
         ensures stored { result.stored ≡ stored }
-        ensures image { result.image ≡ image.items }
-        ensures bytes { (k : ℕ) → slice_index result.image k < 256 }
+        ensures image { result.image ≡ image }
     {
         let _life = trace.life();
         ModelOrigin {
@@ -54,7 +54,7 @@ impl ModelOrigin {
             device,
             tick,
             stored,
-            image: List::of(image),
+            image,
         }
     }
 

@@ -1,7 +1,8 @@
 ghost use Rattle.std.specs.Prelude.{◌≡◌, ◌+◌, ◌*◌, ◌<◌, ◌≤◌, ◌++◌, length, slice_get, vec_capacity, vec_len, Some};
 ghost use Rattle.nv_memory.specs.Board.{left_of};
 ghost use Rattle.nv_memory.specs.Bytes.{bytes_at};
-ghost use Rattle.board_core.specs.Records.{IsHeld, entries_by, left_end, left_len, op_of, width};
+ghost use Rattle.board_core.specs.Sure.{write_of};
+ghost use Rattle.board_core.specs.Records.{IsHeld, entries_by, is_silent, left_end, left_len, op_of, width};
 
 use nv_memory::{Class, Entry, Line, Op, refilled};
 
@@ -55,6 +56,26 @@ fn append(left: &mut Vec<u8>, bytes: &[u8])
     let _ = left.extend_from_slice(bytes);
 }
 
+/// Lays the bytes of a write aside, by the instruction at a place of the code or by none.
+pub(crate) fn laid_write(left: &mut Vec<u8>, pc: Option<u32>, at: u32, bytes: &[u8]) -> What
+    requires room { vec_len left.old + 64 ≤ vec_capacity left.old }
+    requires small { vec_len left.old < 2147483648 }
+    requires few { length bytes.now ≤ 64 }
+    ensures op { op_of left.new.items result ≡ write_of pc at bytes.now }
+    ensures items { left.new.items ≡ left.old.items ++ bytes.now }
+    ensures end { left_end result ≤ length left.new.items }
+    ensures short { left_len result ≤ 64 }
+    ensures capacity { vec_capacity left.old ≤ vec_capacity left.new }
+{
+    let from = left.len() as u32;
+    let len = bytes.len() as u32;
+    append(left, bytes);
+    match pc {
+        Some(pc) => What::Emit { pc, at, from, len },
+        None => What::Write { at, from, len },
+    }
+}
+
 /// Lays the bytes of an operation aside.
 pub(crate) fn laid(left: &mut Vec<u8>, op: &Op) -> What
     requires room { vec_len left.old + 64 ≤ vec_capacity left.old }
@@ -66,31 +87,13 @@ pub(crate) fn laid(left: &mut Vec<u8>, op: &Op) -> What
     ensures short { left_len result ≤ 64 }
     ensures capacity { vec_capacity left.old ≤ vec_capacity left.new }
 {
-    let from = left.len() as u32;
     match op {
         Op::Instr { class, pc } => What::Instr {
             class: *class,
             pc: *pc,
         },
-        Op::Emit { pc, at, left: line } => {
-            let bytes = line.bytes();
-            append(left, bytes);
-            What::Emit {
-                pc: *pc,
-                at: *at,
-                from,
-                len: bytes.len() as u32,
-            }
-        }
-        Op::Write { at, left: line } => {
-            let bytes = line.bytes();
-            append(left, bytes);
-            What::Write {
-                at: *at,
-                from,
-                len: bytes.len() as u32,
-            }
-        }
+        Op::Emit { pc, at, left: line } => laid_write(left, Some(*pc), *at, line.bytes()),
+        Op::Write { at, left: line } => laid_write(left, None, *at, line.bytes()),
         Op::Wake => What::Wake,
         Op::Sleep => What::Sleep,
     }
@@ -141,6 +144,21 @@ impl Record {
         match self {
             Record::Did { .. } => 1,
             Record::Slept { ticks, .. } => *ticks,
+        }
+    }
+
+    /// Whether all its entries are silent: ticks of sleep, or an instruction without an output that was done.
+    pub(crate) fn is_silent(&self) -> bool
+        ensures { result ≡ is_silent self.now }
+    {
+        match self {
+            Record::Did {
+                lost,
+                what: What::Instr { .. },
+                ..
+            } => !*lost,
+            Record::Did { .. } => false,
+            Record::Slept { .. } => true,
         }
     }
 

@@ -1,12 +1,14 @@
-ghost use Rattle.std.specs.Prelude.{◌≡◌, ◌+◌, ◌*◌, ◌<◌, ◌≤◌, ◌++◌, ◌∷◌, [], length, slice_get, flat_map, replicate, ℕ, vec_capacity, vec_len, Some, IfOk};
+ghost use Rattle.std.specs.Prelude.{◌≡◌, ◌+◌, ◌*◌, ◌<◌, ◌≤◌, ◌++◌, ◌∷◌, [], length, false, slice_get, flat_map, replicate, ℕ, vec_capacity, vec_len, Some, IfOk};
 ghost use Rattle.std.specs.List.Sorted.{IsNonDecreasing, IsPartitionPoint};
 ghost use Rattle.cn_base.specs.declared.TheConstants.{MOST_TICKS};
-ghost use Rattle.nv_memory.specs.Asleep.{IsAsleep};
+ghost use Rattle.nv_memory.specs.Silent.{IsSilent};
 ghost use Rattle.board_core.specs.Records.{IsKept, IsLast, IsMarked, IsNarrow, entries_by, sleeps};
+ghost use Rattle.board_core.specs.Sure.{write_of};
 
-use crate::record::{Record, laid};
+use crate::record::{Record, What, laid, laid_write};
+use crate::sure::Sure;
 use cn_base::{MOST_TICKS, NoMemory};
-use nv_memory::Entry;
+use nv_memory::{Class, Entry};
 use std::alloc::Global;
 
 /// The entries of a board, in order, with room for as many as its life has ticks. What lies in memory is shorter: ticks
@@ -79,6 +81,7 @@ fn mark(marks: &mut Vec<u32>, nth: u32, count: u32)
 
 impl Timeline {
     ghost use Rattle.board_core.specs.Kept.{entries_of, room_of};
+    ghost use Rattle.nv_memory.specs.declared.entry.Op.TheVariants as op;
 
     pub(crate) fn with_room(alloc: Global, most: u32, cap: u32) -> Result<Timeline, NoMemory>
         requires { most ≤ MOST_TICKS }
@@ -150,18 +153,19 @@ impl Timeline {
         record.entry(self.cap, self.left.as_slice(), place - first)
     }
 
-    /// How many entries from a place on lie in one record of sleep: none where the place is no sleep.
-    pub(crate) fn resting(&self, place: u32) -> u32
+    /// How many entries from a place on are silent: those of the records from there on of which all are.
+    pub(crate) fn silent(&self, place: u32) -> u32
         requires { place < length (entries_of self.now) }
         ensures within { place + result ≤ length (entries_of self.now) }
-        ensures asleep { (k : ℕ) → place ≤ k → k < place + result → IsAsleep (entries_of self.now) k }
+        ensures silent { (k : ℕ) → place ≤ k → k < place + result → IsSilent (entries_of self.now) k }
     {
-        let nth = self.record_at(place);
-        let end = self.ends[nth];
-        match &self.records[nth] {
-            Record::Slept { .. } => end - place,
-            Record::Did { .. } => 0,
+        let mut nth = self.record_at(place);
+        let mut end = place;
+        'records: while nth < self.records.len() && self.records[nth].is_silent() {
+            end = self.ends[nth];
+            nth += 1;
         }
+        end - place
     }
 
     /// Keeps an entry where there is room.
@@ -178,6 +182,58 @@ impl Timeline {
             drawn: entry.drawn,
             ticks: entry.ticks,
             lost: entry.lost,
+            what,
+        };
+        keep(&mut self.records, record);
+        self.count += 1;
+        keep(&mut self.ends, self.count);
+        mark(&mut self.marks, self.records.len() as u32 - 1, self.count);
+    }
+
+    /// Keeps the entry of an instruction that was done.
+    pub(crate) fn push_instr(&mut self, tick: u32, stored: u32, sure: Sure, class: Class, pc: u32)
+        requires { length (entries_of self.old) < room_of self.old }
+        ensures entries { entries_of self.new ≡ entries_of self.old ++ record { tick = tick; stored = stored; drawn = sure.drawn; ticks = sure.ticks; op = op.Instr class pc; lost = false } ∷ [] }
+        ensures room { room_of self.new ≡ room_of self.old }
+        ensures cap { self.new.cap ≡ self.old.cap }
+    {
+        let record = Record::Did {
+            tick,
+            stored,
+            drawn: sure.drawn,
+            ticks: sure.ticks,
+            lost: false,
+            what: What::Instr { class, pc },
+        };
+        keep(&mut self.records, record);
+        self.count += 1;
+        keep(&mut self.ends, self.count);
+        mark(&mut self.marks, self.records.len() as u32 - 1, self.count);
+    }
+
+    /// Keeps the entry of a write that was done, by the instruction at a place of the code or by none.
+    pub(crate) fn push_write(
+        &mut self,
+        tick: u32,
+        stored: u32,
+        sure: Sure,
+        pc: Option<u32>,
+        at: u32,
+        bytes: &[u8],
+    )
+        requires room { length (entries_of self.old) < room_of self.old }
+        requires few { length bytes.now ≤ 64 }
+        ensures entries { entries_of self.new ≡ entries_of self.old ++ record { tick = tick; stored = stored; drawn = sure.drawn; ticks = sure.ticks; op = write_of pc at bytes.now; lost = false } ∷ [] }
+        ensures room { room_of self.new ≡ room_of self.old }
+        ensures cap { self.new.cap ≡ self.old.cap }
+    {
+        let what = laid_write(&mut self.left, pc, at, bytes);
+        let record = Record::Did {
+            tick,
+            stored,
+            drawn: sure.drawn,
+            ticks: sure.ticks,
+            lost: false,
             what,
         };
         keep(&mut self.records, record);

@@ -4,8 +4,6 @@ use Rattle.std.specs.List.{range_with_len}
 use Rattle.std.specs.Option.{option_map_or}
 use Rattle.std.proofs.lemmas.List.FromFn.{length-range_with_len}
 use Rattle.std.proofs.lemmas.List.Sums.{length-filter, count_by-le-length}
-use Rattle.cat_program.specs.declared.syntax.Class.{Class as Kind}
-use Rattle.cat_program.specs.declared.syntax.Class.TheVariants as kind
 use Rattle.cat_program.specs.Meaning.{Output}
 use Rattle.cat_machine.specs.declared.instr.Instr.{Instr}
 use Rattle.cat_machine.specs.declared.instr.Instr.TheVariants as i
@@ -23,7 +21,7 @@ use Rattle.nv_memory.specs.Board.{ticks_of as board_ticks}
 use Rattle.checkpoint_slots.specs.declared.slot.Slot.{Slot}
 use Rattle.checkpoint_slots.specs.Commit.{differs, differing, or_first, line_write, line_writes, gate_write, other_at, commit_writes}
 use Rattle.cost_bounds.specs.Greatest.{units_of, ticks_of}
-use Rattle.cn_scheduler.specs.Paths.{board_class, is_out, puts_out, own_out, outs_after, acts_of}
+use Rattle.cn_scheduler.specs.Paths.{is_out, puts_out, own_out, outs_after, acts_of}
 use Rattle.cn_scheduler.specs.Asked.{Ask, plain, ask_with, listed, path_asks}
 use Rattle.calm_timeline.specs.Calm.{bound_of}
 use Rattle.calm_timeline.proofs.Asks.{units_asked, ticks_asked}
@@ -40,7 +38,7 @@ ticks-append ticks (a ∷ xs) ys = let rest = ticks-append ticks xs ys in omega 
 
 -- ---- a path
 
-class_out : (instr : Instr) → is_out instr ≡ true → class_of instr ≡ kind.Out
+class_out : (instr : Instr) → is_out instr ≡ true → class_of instr ≡ class.Out
 class_out (i.Push n) is = absurd (cc)
 class_out (i.Load w) is = absurd (cc)
 class_out i.Payload is = absurd (cc)
@@ -57,39 +55,28 @@ class_out (i.StoreAt base len) is = absurd (cc)
 class_out (i.Post t) is = absurd (cc)
 class_out (i.Out c) is = refl
 
--- an instruction costs the board what its class does
-bound_of_class : (device : Device) (k : Kind) → (cost_of device (board_class k)).bound ≡ units_of device k
-bound_of_class device kind.Basic = refl
-bound_of_class device kind.Memory = refl
-bound_of_class device kind.Out = refl
-
-ticks_of_class : (device : Device) (k : Kind) → (cost_of device (board_class k)).ticks ≡ ticks_of device k
-ticks_of_class device kind.Basic = refl
-ticks_of_class device kind.Memory = refl
-ticks_of_class device kind.Out = refl
-
 -- the class that an ask is of, and an output's is that of outputs
 units_with : (device : Device) (l : Layout) (at pc : ℕ) (instr : Instr) (outs : List Output) →
-    bound_of device (ask_with l at pc (board_class (class_of instr)) (own_out (is_out instr) outs)).op ≡ units_of device (class_of instr)
+    bound_of device (ask_with l at pc (class_of instr) (own_out (is_out instr) outs)).op ≡ units_of device (class_of instr)
 units_with device l at pc instr outs =
     go (is_out instr) outs refl
   where
     go : (b : Bool) (outs : List Output) → is_out instr ≡ b →
-        bound_of device (ask_with l at pc (board_class (class_of instr)) (own_out b outs)).op ≡ units_of device (class_of instr)
-    go true (o ∷ outs) is = sym (ap (λ (k : Kind). units_of device k) (class_out instr is))
-    go true [] is = bound_of_class device (class_of instr)
-    go false outs is = bound_of_class device (class_of instr)
+        bound_of device (ask_with l at pc (class_of instr) (own_out b outs)).op ≡ units_of device (class_of instr)
+    go true (o ∷ outs) is = sym (ap (λ (k : Class). units_of device k) (class_out instr is))
+    go true [] is = refl
+    go false outs is = refl
 
 ticks_with : (device : Device) (ticks : Class → ℕ) (same : (c : Class) → ticks c ≡ (cost_of device c).ticks) (l : Layout) (at pc : ℕ) (instr : Instr) (outs : List Output) →
-    board_ticks ticks (ask_with l at pc (board_class (class_of instr)) (own_out (is_out instr) outs)).op ≡ ticks_of device (class_of instr)
+    board_ticks ticks (ask_with l at pc (class_of instr) (own_out (is_out instr) outs)).op ≡ ticks_of device (class_of instr)
 ticks_with device ticks same l at pc instr outs =
     go (is_out instr) outs refl
   where
     go : (b : Bool) (outs : List Output) → is_out instr ≡ b →
-        board_ticks ticks (ask_with l at pc (board_class (class_of instr)) (own_out b outs)).op ≡ ticks_of device (class_of instr)
-    go true (o ∷ outs) is = same class.Out ∙ sym (ap (λ (k : Kind). ticks_of device k) (class_out instr is))
-    go true [] is = same (board_class (class_of instr)) ∙ ticks_of_class device (class_of instr)
-    go false outs is = same (board_class (class_of instr)) ∙ ticks_of_class device (class_of instr)
+        board_ticks ticks (ask_with l at pc (class_of instr) (own_out b outs)).op ≡ ticks_of device (class_of instr)
+    go true (o ∷ outs) is = same class.Out ∙ sym (ap (λ (k : Class). ticks_of device k) (class_out instr is))
+    go true [] is = same (class_of instr)
+    go false outs is = same (class_of instr)
 
 -- the bounds of a path's instructions are those of its places
 pub path_units : (device : Device) (l : Layout) (code : CodeValue) (path : List ℕ) (at : ℕ) (outs : List Output) → InCode code path →
@@ -97,7 +84,7 @@ pub path_units : (device : Device) (l : Layout) (code : CodeValue) (path : List 
 path_units device l code [] at outs within = refl
 path_units device l code (pc ∷ path) at outs within =
     ap₂ (λ (m n : ℕ). m + n)
-    (subst (λ (found : Option Instr). bound_of device (ask_with l at pc (option_map_or (λ instr. board_class (class_of instr)) found class.Basic)
+    (subst (λ (found : Option Instr). bound_of device (ask_with l at pc (option_map_or class_of found class.Basic)
     (own_out (option_map_or is_out found false) outs)).op ≡ instr_cost (units_of device) found) (sym within.0.1) (units_with device l at pc within.0.0 outs))
     (path_units device l code path (at + length (listed (own_out (puts_out code pc) outs))) (outs_after (puts_out code pc) outs) within.1)
 
@@ -106,7 +93,7 @@ pub path_ticks : (device : Device) (ticks : Class → ℕ) (same : (c : Class) �
 path_ticks device ticks same l code [] at outs within = refl
 path_ticks device ticks same l code (pc ∷ path) at outs within =
     ap₂ (λ (m n : ℕ). m + n)
-    (subst (λ (found : Option Instr). board_ticks ticks (ask_with l at pc (option_map_or (λ instr. board_class (class_of instr)) found class.Basic)
+    (subst (λ (found : Option Instr). board_ticks ticks (ask_with l at pc (option_map_or class_of found class.Basic)
     (own_out (option_map_or is_out found false) outs)).op ≡ instr_cost (ticks_of device) found) (sym within.0.1) (ticks_with device ticks same l at pc within.0.0 outs))
     (path_ticks device ticks same l code path (at + length (listed (own_out (puts_out code pc) outs))) (outs_after (puts_out code pc) outs) within.1)
 

@@ -11,13 +11,14 @@ use Rattle.cat_program.specs.declared.syntax.Stepped.TheVariants.{None as NoStep
 use Rattle.cat_program.specs.Checked.{Checked, IsChecked, bodies_of, body_at, program_marks}
 use Rattle.cat_machine.specs.declared.instr.Instr.{Instr}
 use Rattle.cat_machine.specs.declared.instr.Instr.TheVariants as i
+use Rattle.cat_machine.specs.declared.instr.Fetched.{Fetched as Next}
 use Rattle.cat_machine.specs.declared.instr.Mode.{Mode}
 use Rattle.cat_machine.specs.declared.instr.Mode.TheVariants.{Task, Handler}
 use Rattle.cat_machine.specs.declared.instr.Did.{Did}
 use Rattle.cat_machine.specs.declared.instr.Did.TheVariants.{Went, Acted, Ended, Emitted}
 use Rattle.cat_machine.specs.CodeValue.{CodeValue}
 use Rattle.cat_machine.specs.Held.{Held}
-use Rattle.cat_machine.specs.Machine.{Stepping, moved, act, fetched, step_at, step_of, next_of, entry_of, place_or, goes_on, Ended', Stopped, prepended, follow, after_step, until}
+use Rattle.cat_machine.specs.Machine.{Stepping, moved, act, IsNext, fetched, step_at, step_of, next_of, entry_of, place_or, goes_on, Ended', Stopped, prepended, follow, after_step, until}
 use Rattle.cat_machine.specs.Code.{code_of}
 use Rattle.cat_machine.specs.Fits.{HasShape, Corresponds, IsIdle, RunsOn, Stands, Idle, Within, Handling, Fits, ReadyFor, AnswerMeans, SectionIs, stepped_of}
 use Rattle.cat_machine.specs.LaidOut.{one_each}
@@ -90,6 +91,10 @@ runs_later p mode h s r step =
     by_outs (Some outs) w = by_run outs (until 999999 mode (code_of p) s.after) refl w
 
 -- ---- the steps of a state that fits
+
+-- the instruction that is next is the one that a step does
+pub step_is_act : (mode : Mode) (code : CodeValue) (h : Held) (f : Next) → IsNext code h f → step_of mode code h ≡ act mode f.instr f.pc h
+step_is_act mode code h f next = ap (step_at mode code h) next.0 ∙ ap (fetched mode f.pc h) next.1
 
 -- the place of the instruction, and the instruction
 pub record Fetched (mode : Mode) (code : CodeValue) (h : Held) (s : Stepping) : Type 0 where

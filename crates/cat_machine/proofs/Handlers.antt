@@ -7,7 +7,7 @@ use Rattle.std.proofs.lemmas.Int.{ints, wraps}
 use Rattle.std.proofs.lemmas.Bool.Decides.{nat_tests}
 use Rattle.std.proofs.Math.ListN.{length-set}
 use Rattle.cat_program.specs.declared.syntax.Expr.{Expr}
-use Rattle.cat_program.specs.declared.syntax.Class.TheVariants.{Basic}
+use Rattle.nv_memory.specs.declared.device.Class.TheVariants.{Basic}
 use Rattle.cat_program.specs.Value.{value_of, index_of, is_nought}
 use Rattle.cat_program.specs.Body.{Simple, SetWord, SetElement, Emit, Raise, Body, Empty, Plain, When, Choice, Loop, Turns}
 use Rattle.cat_program.specs.Meaning.{Store, effect, output, Handled, and_then, unchanged, times, either, handled}

@@ -2,7 +2,7 @@
 use Rattle.std.proofs.Common.{◌≡◌, ℕ, zero, suc, ◌+◌, ◌<◌, ◌≤◌, Bool, true, false, List, [], ◌∷◌, ◌++◌, length, Option, Some, None, refl, sym, ap, ◌∙◌, subst, arith}
 use Rattle.std.specs.Prelude.{nat_lt, if◌then◌else◌, slice_get, slice_set, ℤ, pos, replicate}
 use Rattle.cat_program.specs.declared.syntax.Expr.{Expr, Number, Payload, Word, Element', Signed', Chain'}
-use Rattle.cat_program.specs.declared.syntax.Class.TheVariants.{Basic}
+use Rattle.nv_memory.specs.declared.device.Class.TheVariants.{Basic}
 use Rattle.cat_program.specs.Value.{value_of, index_of, is_nought}
 use Rattle.cat_program.specs.Body.{Simple, SetWord, SetElement, Emit, Raise, Body, Empty, Plain, When, Choice, Loop, Turns, join}
 use Rattle.cat_program.specs.Meaning.{Output, Store, raised, TaskStep, quietly, chosen, list_step}

@@ -1,7 +1,7 @@
 -- No section and no handler costs more than the bounds say.
 use Rattle.std.proofs.Common.{◌≡◌, ℕ, ◌+◌, ◌≤◌, [], ◌∷◌, length, Option, Some, None, refl, sym, ap, ◌∙◌, subst, arith}
 use Rattle.std.specs.Prelude.{max, ℤ, MatchOption}
-use Rattle.cat_program.specs.declared.syntax.Class.TheVariants.{Basic}
+use Rattle.nv_memory.specs.declared.device.Class.TheVariants.{Basic}
 use Rattle.cat_program.specs.Meaning.{TaskStep, handled, task_step_of}
 use Rattle.cat_program.specs.Places.{body_size}
 use Rattle.cat_program.specs.Checked.{Checked, IsChecked, bodies_of, version_at, body_at, EventWorks}

@@ -4,7 +4,7 @@ use Rattle.std.specs.Prelude.{slice_get, slice_index, map, ℤ, unwrap_or, Match
 use Rattle.std.specs.Option.{option_and_then}
 use Rattle.std.proofs.lemmas.List.Quantifiers.{position-Some}
 use Rattle.std.proofs.Math.ListN.{length-set}
-use Rattle.cat_program.specs.declared.syntax.Class.TheVariants.{Basic}
+use Rattle.nv_memory.specs.declared.device.Class.TheVariants.{Basic}
 use Rattle.cat_program.specs.Body.{Body, Empty, Plain, When, Choice, Loop, Turns, join, tree_of}
 use Rattle.cat_program.specs.Meaning.{Store, TaskState, TaskStep, quietly, lowered, first_posted, taken, list_step, step_from, task_step_of}
 use Rattle.cat_program.specs.Places.{body_size, Marks, marks_of, task_marks, tasks_marks, rest_in, listed, task_size, tasks_size}

@@ -1,6 +1,6 @@
 -- No section and no handler costs more than the bounds say.
 use Rattle.std.specs.Prelude.{◌≡◌, ℕ, ◌+◌, ◌≤◌, ℤ, Some}
-use Rattle.cat_program.specs.declared.syntax.Class.TheVariants.{Basic}
+use Rattle.nv_memory.specs.declared.device.Class.TheVariants.{Basic}
 use Rattle.cat_program.specs.Checked.{Checked, bodies_of, version_at}
 use Rattle.cat_machine.specs.declared.instr.Mode.TheVariants.{Task, Handler}
 use Rattle.cat_machine.specs.CodeValue.{EntryAt}

@@ -48,6 +48,13 @@ impl Code {
         self.instrs.len() as u32
     }
 
+    // What holds of all code, for the steps that take an instruction with its place.
+    pub(crate) fn is_short(&self)
+        ensures { length self.now.instrs ≤ 60000 }
+    {
+        let _len = self.instrs.len();
+    }
+
     /// The instruction at a place.
     pub fn instr(&self, pc: u32) -> Instr
         requires { pc < length self.now.instrs }

@@ -5,6 +5,3 @@ mod cursor;
 mod places;
 
 pub use places::{one_starts, starts};
-
-#[cfg(test)]
-mod tests;

@@ -12,6 +12,3 @@ mod program;
 
 pub use laws::checked_law;
 pub use program::{checked, resolve};
-
-#[cfg(test)]
-mod tests;

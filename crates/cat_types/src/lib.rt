@@ -10,8 +10,6 @@ mod pieces;
 mod program;
 mod rules;
 mod sizes;
-#[cfg(test)]
-mod tests;
 mod types;
 mod uses;
 

@@ -1,6 +1,8 @@
 //! The program `catnap`: real files, standard output and the words of the command line.
 #![tactic(auto)]
 
+#[cfg(test)]
+mod commands;
 mod files;
 mod output;
 #[cfg(test)]

@@ -1,5 +1,5 @@
 -- One byte more than the greatest file has tells as much as the whole file.
-use Rattle.std.proofs.Common.{◌≡◌, ℕ, zero, suc, ◌+◌, ◌<◌, ◌≤◌, List, [], ◌∷◌, length, take, map, Result, Ok, Err, refl, sym, ap, ◌∙◌, arith, inl, inr, subst}
+use Rattle.std.proofs.Common.{◌≡◌, ℕ, zero, suc, ◌+◌, ◌<◌, ◌≤◌, List, [], ◌∷◌, length, take, map, Result, Some, None, Ok, Err, refl, sym, ap, ◌∙◌, arith, inl, inr, subst}
 use Rattle.std.specs.Prelude.{get_or, nat_lt, true}
 use Rattle.std.proofs.lemmas.List.{take_all, length-take}
 use Rattle.std.proofs.lemmas.Bool.{cases_lt}
@@ -8,12 +8,13 @@ use Rattle.cat_program.specs.Checked.{Checked}
 use Rattle.cn_tables.specs.declared.fault.RowKind.TheVariants.{Long}
 use Rattle.cn_tables.specs.Table.{Bad, Fields, Step, table_rows, then_rows, read_rows, read_table}
 use Rattle.event_arrivals.specs.Arrivals.{arrivals_of, lists_or_bad, timings_of}
+use Rattle.forecast_table.specs.Table.{forecast_of, with_some}
 use Rattle.harvest_trace.specs.FailsTable.{fails_of}
 use Rattle.harvest_trace.specs.TraceTable.{trace_of}
 use Rattle.harvest_trace.specs.declared.row.TraceRow.{TraceRow}
 use Rattle.nv_memory.specs.declared.device.Device.{Device}
 use Rattle.catnap_words.specs.declared.form.Form.{Form}
-use Rattle.catnap_words.specs.declared.form.Form.TheVariants.{Run, List as Listing, Check, Plan, Replay, Image, Resume, Uplink, Object, RunObject, Bench}
+use Rattle.catnap_words.specs.declared.form.Form.TheVariants.{Run, List as Listing, Check, CheckForecast, Plan, Replay, ReplayForecast, Image, Resume, Uplink, Object, RunObject, Bench}
 use Rattle.catnap_top.specs.declared.refusal.SourceFault.{SourceFault}
 use Rattle.catnap_top.specs.declared.fault.ProfileFault.{ProfileFault}
 use Rattle.catnap_top.specs.declared.fault.ProfileFault.TheVariants as profile
@@ -21,7 +22,7 @@ use Rattle.catnap_top.specs.declared.fault.Table.{Table}
 use Rattle.catnap_top.specs.declared.fault.Fault.TheVariants as fault
 use Rattle.catnap_top.specs.Answer.{Answer, most_bytes}
 use Rattle.catnap_top.specs.Source.{most_source, IsRefused, too_long, no_tokens, no_tree, unchecked}
-use Rattle.catnap_top.specs.Files.{IsSource, program_in, IsProfile, device_in, table_in, trace_in, arrivals_in, failures_in, files_in}
+use Rattle.catnap_top.specs.Files.{IsSource, program_in, IsProfile, device_in, table_in, trace_in, arrivals_in, failures_in, forecast_in, files_in}
 use Rattle.catnap_top.specs.Look.{Look}
 use Rattle.catnap_top.specs.Uplink.{links_in}
 use Rattle.catnap_top.specs.declared.files.ReplayFiles.{ReplayFiles}
@@ -118,6 +119,9 @@ arrivals_cut p trace file =
 pub failures_cut : (file : List ℕ) → Leads (failures_in (front file)) (failures_in file)
 failures_cut file = told_leads _ (fails_of (front file)) (fails_of file) (table_cut _ _ _ file)
 
+pub forecast_cut : (file : List ℕ) → Leads (forecast_in (front file)) (forecast_in file)
+forecast_cut file = told_leads _ (forecast_of (front file)) (forecast_of file) (ap with_some (table_cut _ _ _ file))
+
 pub links_cut : (file : List ℕ) → Leads (links_in (front file)) (links_in file)
 links_cut file = told_leads _ (links_of (front file)) (links_of file) (table_cut _ _ _ file)
 
@@ -127,20 +131,10 @@ pub object_cut : (file : List ℕ) → Leads (object_in (front file)) (object_in
 object_cut file =
     by_leads fault.Object (IsObject (front file)) (IsObject file) (λ came. by_front (λ f. IsObject f came) file (λ lt more. object_long (front file) file came more lt))
 
-pub image_cut : (files : ReplayFiles) (chosen : Chosen) (file : List ℕ) → Leads (start_in files chosen (front file)) (start_in files chosen file)
+pub image_cut : (files : ReplayFiles) (chosen : List Chosen) (file : List ℕ) → Leads (start_in files chosen (front file)) (start_in files chosen file)
 image_cut files chosen file =
     by_leads fault.Image (IsImage files chosen (front file)) (IsImage files chosen file)
     (λ came. by_front (λ f. IsImage files chosen f came) file (λ lt more. image_long files chosen file came lt))
-
--- ---- the files of a replay
-
-pub files_cut : (s d t a f : List ℕ) → Leads (files_in (front s) (front d) (front t) (front a) (front f)) (files_in s d t a f)
-files_cut s d t a f =
-    then_leads _ _ _ _ (program_cut s)
-    (λ p. then_leads _ _ _ _ (device_cut d)
-    (λ x. then_leads _ _ _ _ (trace_cut t)
-    (λ v. then_leads _ _ _ _ (arrivals_cut p v a)
-    (λ k. then_leads _ _ _ _ (failures_cut f) (λ m came h. h)))))
 
 -- ---- a form
 
@@ -157,7 +151,7 @@ at_place look cut files place =
     subst (λ file. Leads (look file) (look (get_or files place []))) (sym (front_at files place)) (cut (get_or files place []))
 
 abbrev replay_files : List (List ℕ) → Look ReplayFiles
-replay_files files = files_in (get_or files 0 []) (get_or files 1 []) (get_or files 2 []) (get_or files 3 []) (get_or files 4 [])
+replay_files files = files_in (get_or files 0 []) (get_or files 1 []) (get_or files 2 []) (get_or files 3 []) (get_or files 4 []) None
 
 replay_files_cut : (files : List (List ℕ)) → Leads (replay_files (map front files)) (replay_files files)
 replay_files_cut files =
@@ -167,13 +161,29 @@ replay_files_cut files =
     (λ t. then_leads _ _ _ _ (at_place (arrivals_in p t) (arrivals_cut p t) files 3)
     (λ a. then_leads _ _ _ _ (at_place failures_in failures_cut files 4) (λ f came h. h)))))
 
+abbrev forecast_files : List (List ℕ) → Look ReplayFiles
+forecast_files files = files_in (get_or files 0 []) (get_or files 1 []) (get_or files 2 []) (get_or files 3 []) (get_or files 4 []) (Some (get_or files 5 []))
+
+forecast_files_cut : (files : List (List ℕ)) → Leads (forecast_files (map front files)) (forecast_files files)
+forecast_files_cut files =
+    then_leads _ _ _ _ (at_place program_in program_cut files 0)
+    (λ p. then_leads _ _ _ _ (at_place device_in device_cut files 1)
+    (λ d. then_leads _ _ _ _ (at_place trace_in trace_cut files 2)
+    (λ t. then_leads _ _ _ _ (at_place (arrivals_in p t) (arrivals_cut p t) files 3)
+    (λ a. then_leads _ _ _ _ (at_place failures_in failures_cut files 4)
+    (λ f. then_leads _ _ _ _ (then_leads _ _ _ _ (at_place forecast_in forecast_cut files 5) (λ rows came h. h)) (λ w came h. h))))))
+
 looks_cut : (form : Form) (files : List (List ℕ)) → Leads (looks_of form (map front files)) (looks_of form files)
 looks_cut (Run steps) files = then_leads _ _ _ _ (at_place program_in program_cut files 0) (λ p came h. h)
 looks_cut Listing files = then_leads _ _ _ _ (at_place program_in program_cut files 0) (λ p came h. h)
 looks_cut Object files = then_leads _ _ _ _ (at_place program_in program_cut files 0) (λ p came h. h)
 looks_cut Check files =
     then_leads _ _ _ _ (at_place program_in program_cut files 0) (λ p. then_leads _ _ _ _ (at_place device_in device_cut files 1) (λ d came h. h))
+looks_cut CheckForecast files =
+    then_leads _ _ _ _ (at_place program_in program_cut files 0)
+    (λ p. then_leads _ _ _ _ (at_place device_in device_cut files 1) (λ d. then_leads _ _ _ _ (at_place forecast_in forecast_cut files 2) (λ rows came h. h)))
 looks_cut Replay files = then_leads _ _ _ _ (replay_files_cut files) (λ x came h. h)
+looks_cut ReplayForecast files = then_leads _ _ _ _ (forecast_files_cut files) (λ x came h. h)
 looks_cut Plan files =
     then_leads _ _ _ _ (at_place program_in program_cut files 0) (λ p. then_leads _ _ _ _ (at_place device_in device_cut files 1) (λ d came h. h))
 looks_cut Image files = then_leads _ _ _ _ (replay_files_cut files) (λ x came h. h)

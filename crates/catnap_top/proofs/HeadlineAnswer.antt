@@ -7,7 +7,6 @@ use Rattle.board_core.specs.Reached.{first_state}
 use Rattle.cat_program.specs.Checked.{Checked, IsChecked}
 use Rattle.checkpoint_slots.specs.declared.slot.Slot.{Slot}
 use Rattle.cn_report.specs.Whole.{resumed_text}
-use Rattle.degradation.specs.Choice.{supply_of}
 use Rattle.degradation.specs.declared.chosen.Chosen.{Chosen}
 use Rattle.event_arrivals.specs.Arrivals.{Lists}
 use Rattle.event_arrivals.specs.Counts.{AreCounted}
@@ -35,7 +34,7 @@ use Rattle.catnap_top.specs.declared.files.ReplayFiles.{ReplayFiles}
 use Rattle.catnap_top.specs.declared.status.Status.{Status}
 use Rattle.catnap_top.specs.declared.status.Status.TheVariants.{Done, LogFull, ReadFault, WriteFault, NoMemory}
 use Rattle.catnap_words.specs.declared.form.Form.{Form}
-use Rattle.catnap_words.specs.declared.form.Form.TheVariants.{Replay, Resume}
+use Rattle.catnap_words.specs.declared.form.Form.TheVariants.{Resume}
 use Rattle.catnap_top.specs.Answer.{Answer}
 use Rattle.catnap_top.specs.Course.{Outside, Answers, Ends, IsDue, answered, gave_up, cut, of_failure, of_files, of_words, whole}
 use Rattle.catnap_top.specs.Faults.{fault_answer}
@@ -45,10 +44,11 @@ use Rattle.catnap_top.specs.Lives.{Goes, Life, Lived, Lives, reported, start_poi
 use Rattle.catnap_top.specs.Look.{answer_of}
 use Rattle.catnap_top.specs.Reply.{looks_of, CallsFor}
 use Rattle.catnap_top.specs.Resume.{GoesOn, Start, committed_work, rest_reported, start_in, told_before}
-use Rattle.catnap_top.specs.Served.{versions_in}
+use Rattle.catnap_top.specs.Replay.{replaying, versions_for}
+use Rattle.catnap_top.specs.Served.{Serves}
 use Rattle.catnap_words.specs.Words.{names_of}
 use Rattle.catnap_top.proofs.HeadlineDeadlines.{begins_as}
-use Rattle.catnap_top.proofs.HeadlineFiles.{LowerLaws, PlanFacts, TellsFiles, are_sound, is_checked, is_set_up, plan_facts, tells_files, then_gives}
+use Rattle.catnap_top.proofs.HeadlineFiles.{LowerLaws, PlanFacts, TellsFiles, are_sound, by_gives, is_checked, is_set_up, plan_facts, steady_files, tells_files, then_gives}
 use Rattle.catnap_top.proofs.HeadlineRuns.{shows_run}
 use Rattle.catnap_top.proofs.HeadlineText.{ReadsAgain}
 use Rattle.catnap_top.proofs.Resuming.{starts_saved}
@@ -72,10 +72,12 @@ not_refused (fault.Table table.Fails row kind) (inl e) = cc
 not_refused (fault.Table table.Fails row kind) (inr e) = cc
 not_refused (fault.Table table.Link row kind) (inl e) = cc
 not_refused (fault.Table table.Link row kind) (inr e) = cc
-not_refused (fault.Choice (none.Window spacing)) (inl e) = cc
-not_refused (fault.Choice (none.Window spacing)) (inr e) = cc
-not_refused (fault.Choice (none.Rejected verdict)) (inl e) = cc
-not_refused (fault.Choice (none.Rejected verdict)) (inr e) = cc
+not_refused (fault.Table table.Forecast row kind) (inl e) = cc
+not_refused (fault.Table table.Forecast row kind) (inr e) = cc
+not_refused (fault.Choice row (none.Window spacing)) (inl e) = cc
+not_refused (fault.Choice row (none.Window spacing)) (inr e) = cc
+not_refused (fault.Choice row (none.Rejected verdict)) (inl e) = cc
+not_refused (fault.Choice row (none.Rejected verdict)) (inr e) = cc
 not_refused (fault.Image bad) (inl e) = cc
 not_refused (fault.Image bad) (inr e) = cc
 not_refused (fault.Object bad) (inl e) = cc
@@ -95,14 +97,17 @@ module _ (laws : LowerLaws) (again : ReadsAgain) (lawful : (program : Checked) (
     (agrees : (program : Checked) (versions : List ℕ) (arrivals : Lists) → AgreesWithOne program versions arrivals)
     (counted : (lists : Lists) → AreSound lists → AreCounted lists) (handled : (s : Setting) → OwnRunsHandleArrivals s) where
   -- a timeline from a start that is saved and on time
-  module _ (bytes : List (List ℕ)) (files : ReplayFiles) (chosen : Chosen)
-      (told : files_in (get_or bytes 0 []) (get_or bytes 1 []) (get_or bytes 2 []) (get_or bytes 3 []) (get_or bytes 4 []) (Ok files))
-      (served : versions_in files.program files.device (supply_of files.device) (Ok chosen)) (begun : Layout → Work) (life : Life) (goes : Goes files chosen begun life) where
+  module _ (bytes : List (List ℕ)) (w : Option (List ℕ)) (files : ReplayFiles) (chosen : List Chosen)
+      (told : files_in (get_or bytes 0 []) (get_or bytes 1 []) (get_or bytes 2 []) (get_or bytes 3 []) (get_or bytes 4 []) w (Ok files))
+      (served : versions_for files (Ok chosen)) (begun : Layout → Work) (life : Life) (goes : Goes files chosen begun life) where
     tells : TellsFiles (get_or bytes 0 []) (get_or bytes 3 []) files
-    tells = tells_files (get_or bytes 0 []) (get_or bytes 1 []) (get_or bytes 2 []) (get_or bytes 3 []) (get_or bytes 4 []) files told
+    tells = tells_files laws.forecasts (get_or bytes 0 []) (get_or bytes 1 []) (get_or bytes 2 []) (get_or bytes 3 []) (get_or bytes 4 []) w files told
 
     set_up : IsSetUp files.program goes.plan
     set_up = is_set_up laws (get_or bytes 0 []) (get_or bytes 3 []) files tells chosen goes.plan served goes.is_plan
+
+    serves : Serves files.program files.device files.forecast (Ok chosen)
+    serves = by_gives _ _ chosen served
 
     facts : PlanFacts files chosen goes.plan
     facts = plan_facts laws (get_or bytes 0 []) (get_or bytes 3 []) files tells chosen goes.plan served goes.is_plan
@@ -111,25 +116,25 @@ module _ (laws : LowerLaws) (again : ReadsAgain) (lawful : (program : Checked) (
         → AreOnTime files.program files.device facts.bounds goes.plan life.origin.tick (start_point life.origin (begun goes.plan.layout)) goes.chunks
         → (from : ℕ) → from ≡ (committed_at (past_in life) 0).len
         → ShowsRun files chosen begun life goes from
-        (resumed_text files.program.headers files.program.variables chosen files.arrivals (past_in life) from life.state.tick life.state.stored life.end)
+        (resumed_text files.program.headers files.program.variables files.given files.forecast chosen files.arrivals (past_in life) from life.state.tick life.state.stored life.end)
     run_shows begins saved on_time from from_is =
         let checked : IsChecked files.program = is_checked laws (get_or bytes 0 []) (get_or bytes 3 []) files tells in
         let sound : AreSound files.arrivals = are_sound laws (get_or bytes 0 []) (get_or bytes 3 []) files tells in
         shows_run again files chosen begun life goes checked set_up (lawful files.program goes.plan) begins saved facts on_time (one goes.plan.layout files.program)
-        (agrees files.program chosen.versions files.arrivals) sound (counted files.arrivals sound) (handled (run_of files chosen)) from _ from_is refl
+        (λ versions. agrees files.program versions files.arrivals) tells.forecast serves.choices.count sound (counted files.arrivals sound) (handled (run_of files chosen)) from _ from_is refl
 
   module _ (on_time : FreshRunsAreOnTime) where
-    report_shows : (bytes : List (List ℕ)) (files : ReplayFiles) (chosen : Chosen) (life : Life) (answer : Answer)
-        → files_in (get_or bytes 0 []) (get_or bytes 1 []) (get_or bytes 2 []) (get_or bytes 3 []) (get_or bytes 4 []) (Ok files)
-        → versions_in files.program files.device (supply_of files.device) (Ok chosen) → Lives files chosen life → reported files chosen life ≡ answer
-        → IsHeadline bytes answer.status answer.text
-    report_shows bytes files chosen life answer told served lives same =
+    report_shows : (bytes : List (List ℕ)) (w : Option (List ℕ)) (files : ReplayFiles) (chosen : List Chosen) (life : Life) (answer : Answer)
+        → files_in (get_or bytes 0 []) (get_or bytes 1 []) (get_or bytes 2 []) (get_or bytes 3 []) (get_or bytes 4 []) w (Ok files)
+        → versions_for files (Ok chosen) → Lives files chosen life → reported files chosen life ≡ answer
+        → IsHeadline w bytes answer.status answer.text
+    report_shows bytes w files chosen life answer told served lives same =
         let goes = lives.goes in
         let p : Point = start_point life.origin (first_work files.program goes.plan.layout) in
         let fresh : StartsFresh files.program goes.plan p = record { fresh = lives.fresh; off = refl; clean = refl; work_is = refl } in
-        let up : IsSetUp files.program goes.plan = set_up bytes files chosen told served (first_work files.program) life goes in
-        let f : PlanFacts files chosen goes.plan = facts bytes files chosen told served (first_work files.program) life goes in
-        subst (λ (a : Answer). IsHeadline bytes a.status a.text) same
+        let up : IsSetUp files.program goes.plan = set_up bytes w files chosen told served (first_work files.program) life goes in
+        let f : PlanFacts files chosen goes.plan = facts bytes w files chosen told served (first_work files.program) life goes in
+        subst (λ (a : Answer). IsHeadline w bytes a.status a.text) same
         (record {
           files = files;
           told = told;
@@ -139,15 +144,16 @@ module _ (laws : LowerLaws) (again : ReadsAgain) (lawful : (program : Checked) (
           lives = lives;
           status_is = refl;
           text_is = refl;
-          shows = run_shows bytes files chosen told served (first_work files.program) life goes ((starts files.program goes.plan).begins p fresh) ((starts files.program goes.plan).fresh p fresh).saved
+          shows = run_shows bytes w files chosen told served (first_work files.program) life goes ((starts files.program goes.plan).begins p fresh) ((starts files.program goes.plan).fresh p fresh).saved
               (on_time files.program files.device f.bounds goes.plan life.origin.tick p goes.chunks f.planned up fresh (begins_as life.origin files.device goes.device_is) goes.lawful)
               0 (fresh_from files.program (past_in life) (subst (λ (l : Layout). IsFresh files.program l life.origin.image) (sym goes.layout_is) lives.fresh));
         })
 
-    came_shows : (bytes : List (List ℕ)) (came : Result Answer Fault) → looks_of Replay bytes came → HasReported (answer_of came).status
-        → IsHeadline bytes (answer_of came).status (answer_of came).text
-    came_shows bytes (Err why) is done = absurd (not_refused why done)
-    came_shows bytes (Ok answer) is done =
+    came_shows : (bytes : List (List ℕ)) (w : Option (List ℕ)) (came : Result Answer Fault)
+        → replaying (get_or bytes 0 []) (get_or bytes 1 []) (get_or bytes 2 []) (get_or bytes 3 []) (get_or bytes 4 []) w came → HasReported (answer_of came).status
+        → IsHeadline w bytes (answer_of came).status (answer_of came).text
+    came_shows bytes w (Err why) is done = absurd (not_refused why done)
+    came_shows bytes w (Ok answer) is done =
         then_gives _ _ answer _ is
         (λ files told rest. then_gives _ _ answer _ rest
         (λ lived looks said. then_gives _ _ lived _ looks
@@ -156,27 +162,34 @@ module _ (laws : LowerLaws) (again : ReadsAgain) (lawful : (program : Checked) (
         let found_is : lives.x ≡ life = let f = lives.came_is in cc in
         let lived_is : (record { files = files; chosen = chosen; life = life }) ≡ lived = cc in
         let same : reported lived.files lived.chosen lived.life ≡ answer = cc in
-        report_shows bytes files chosen life answer told served (subst (λ (l : Life). Lives files chosen l) found_is lives.holds)
+        report_shows bytes w files chosen life answer told served (subst (λ (l : Life). Lives files chosen l) found_is lives.holds)
         (ap (λ (l : Lived). reported l.files l.chosen l.life) lived_is ∙ same)))))
 
     pub replays_show : ReplaysShowRuns
-    replays_show bytes due h done =
-        subst (λ (a : Answer). IsHeadline bytes a.status a.text) (sym h.due_is)
-        (came_shows bytes h.came h.is (subst (λ (a : Answer). HasReported a.status) h.due_is done))
+    replays_show =
+        record {
+          steady = λ bytes due h done.
+              subst (λ (a : Answer). IsHeadline None bytes a.status a.text) (sym h.due_is)
+              (came_shows bytes None h.came h.is (subst (λ (a : Answer). HasReported a.status) h.due_is done));
+          forecast = λ bytes due h done.
+              subst (λ (a : Answer). IsHeadline (Some (get_or bytes 5 [])) bytes a.status a.text) (sym h.due_is)
+              (came_shows bytes (Some (get_or bytes 5 [])) h.came h.is (subst (λ (a : Answer). HasReported a.status) h.due_is done));
+        }
 
   -- ---- a life that goes on
 
   module _ (on_time : ResumedRunsAreOnTime) (layouts : LayoutsAreNumbers) (fit : FitImagesBegin) where
-    rest_shows : (bytes : List (List ℕ)) (files : ReplayFiles) (chosen : Chosen) (start : Start) (life : Life) (answer : Answer)
-        → files_in (get_or bytes 0 []) (get_or bytes 1 []) (get_or bytes 2 []) (get_or bytes 3 []) (get_or bytes 4 []) (Ok files)
-        → versions_in files.program files.device (supply_of files.device) (Ok chosen) → start_in files chosen (get_or bytes 5 []) (Ok start) → GoesOn files chosen start life
+    rest_shows : (bytes : List (List ℕ)) (files : ReplayFiles) (chosen : List Chosen) (start : Start) (life : Life) (answer : Answer)
+        → files_in (get_or bytes 0 []) (get_or bytes 1 []) (get_or bytes 2 []) (get_or bytes 3 []) (get_or bytes 4 []) None (Ok files)
+        → versions_for files (Ok chosen) → start_in files chosen (get_or bytes 5 []) (Ok start) → GoesOn files chosen start life
         → rest_reported files chosen life ≡ answer → IsResumed bytes answer.status answer.text
     rest_shows bytes files chosen start life answer told served accepted goes_on same =
         let goes = goes_on.goes in
+        let steady = (steady_files (get_or bytes 0 []) (get_or bytes 1 []) (get_or bytes 2 []) (get_or bytes 3 []) (get_or bytes 4 []) files told).0 in
         let p : Point = start_point life.origin (committed_work start.image goes.plan.layout) in
-        let from : StartsSaved files.program goes.plan p = starts_saved layouts fit files chosen (get_or bytes 5 []) start life accepted goes_on in
-        let up : IsSetUp files.program goes.plan = set_up bytes files chosen told served (committed_work start.image) life goes in
-        let f : PlanFacts files chosen goes.plan = facts bytes files chosen told served (committed_work start.image) life goes in
+        let from : StartsSaved files.program goes.plan p = starts_saved layouts fit files chosen (get_or bytes 5 []) start life steady accepted goes_on in
+        let up : IsSetUp files.program goes.plan = set_up bytes None files chosen told served (committed_work start.image) life goes in
+        let f : PlanFacts files chosen goes.plan = facts bytes None files chosen told served (committed_work start.image) life goes in
         subst (λ (a : Answer). IsResumed bytes a.status a.text) same
         (record {
           files = files;
@@ -189,7 +202,7 @@ module _ (laws : LowerLaws) (again : ReadsAgain) (lawful : (program : Checked) (
           goes_on = goes_on;
           status_is = refl;
           text_is = refl;
-          shows = run_shows bytes files chosen told served (committed_work start.image) life goes ((starts files.program goes.plan).saved p from).begins from.saved
+          shows = run_shows bytes None files chosen told served (committed_work start.image) life goes ((starts files.program goes.plan).saved p from).begins from.saved
               (on_time files.program files.device f.bounds goes.plan life.origin.tick p goes.chunks f.planned up from (begins_as life.origin files.device goes.device_is) goes.lawful)
               (told_before life) refl;
         })

@@ -30,7 +30,8 @@ use Rattle.lawful_timeline.specs.Working.{setting_of}
 use Rattle.calm_timeline.specs.Numbers.{IsBoardOf}
 use Rattle.timely_commits.specs.Timely as timely
 use Rattle.timely_commits.specs.Timely.{AreOnTime, IsLoggedBy, IsOnTime}
-use Rattle.cn_runtime.specs.Planned.{deadlines_in, row_of}
+use Rattle.cn_runtime.specs.Planned.{deadlines_in}
+use Rattle.cn_scheduler.specs.declared.plan.PlanRow.{PlanRow}
 use Rattle.cn_report.specs.Outcome.{arrived_at, due_at, known_at, log_line, ran_line, word_of}
 use Rattle.cn_report.specs.Report.{name_of}
 use Rattle.catnap_top.specs.declared.files.ReplayFiles.{ReplayFiles}
@@ -93,13 +94,13 @@ module _ (files : ReplayFiles) (told : ℕ → Option ℕ) (done : ℕ) (entries
 
 -- ---- the stretches
 
-module _ (files : ReplayFiles) (chosen : Chosen) (begun : Layout → Work) (life : Life) (goes : Goes files chosen begun life) (facts : PlanFacts files chosen goes.plan)
+module _ (files : ReplayFiles) (chosen : List Chosen) (begun : Layout → Work) (life : Life) (goes : Goes files chosen begun life) (facts : PlanFacts files chosen goes.plan)
     (on_time : AreOnTime files.program files.device facts.bounds goes.plan life.origin.tick (start_point life.origin (begun goes.plan.layout)) goes.chunks)
     (one : ImagesStandForOne goes.plan.layout files.program)
     (holds : HoldsThroughout files.program goes.plan (start_point life.origin (begun goes.plan.layout)) goes.chunks)
     (setting_is : setting_of files.program goes.plan ≡ run_of files chosen) (timeline_is : life.state.timeline ≡ entries_of goes.chunks)
     (final : Moment) (stands : StandsFor goes.plan.layout files.program (image_by (entries_of goes.chunks) life.origin.image) final) (from : ℕ)
-    (later : (event k place n t : ℕ) (arrival : Arrival) → slice_get final.entries place ≡ Some (Ran event (slice_index chosen.versions event) n t k) → arrival_at files.arrivals event k ≡ Some arrival
+    (later : (event k place n t : ℕ) (arrival : Arrival) → slice_get final.entries place ≡ Some (Ran event (version_for (run_of files chosen) event arrival) n t k) → arrival_at files.arrivals event k ≡ Some arrival
     → life.origin.tick ≤ arrival.tick → from ≤ place) where
   past_is : timely.past_of goes.plan (start_point life.origin (begun goes.plan.layout)) goes.chunks ≡ past_in life
   past_is =
@@ -124,8 +125,8 @@ module _ (files : ReplayFiles) (chosen : Chosen) (begun : Layout → Work) (life
       let last : List ℕ = image_by (entries_of goes.chunks) life.origin.image in
       let moment : is.moment ≡ final =
       one.once last is.moment final (subst (λ i. StandsFor goes.plan.layout files.program i is.moment) same is.stands) stands in
-      let version : version_for (setting_of files.program goes.plan) event arrival ≡ slice_index chosen.versions event = ap (λ (s : Setting). version_for s event arrival) setting_is in
-      let entry : slice_get final.entries is.place ≡ Some (Ran event (slice_index chosen.versions event) is.steps is.begun k) =
+      let version : version_for (setting_of files.program goes.plan) event arrival ≡ version_for (run_of files chosen) event arrival = ap (λ (s : Setting). version_for s event arrival) setting_is in
+      let entry : slice_get final.entries is.place ≡ Some (Ran event (version_for (run_of files chosen) event arrival) is.steps is.begun k) =
       ap (λ (m : Moment). slice_get m.entries is.place) (sym moment) ∙ is.entry ∙ ap (λ v. Some (Ran event v is.steps is.begun k)) version in
       let soon : done_at (past_in life) is.place ≤ due_at files.program.headers files.arrivals event k =
       subst (λ n. done_at (past_in life) is.place ≤ n) (due-is event k arrival comes) (subst (λ (p : Past). done_at p is.place ≤ due) past_is is.in_time) in
@@ -137,16 +138,17 @@ module _ (files : ReplayFiles) (chosen : Chosen) (begun : Layout → Work) (life
         start = is.begun;
         entry = entry;
         only = λ i v n t at. is.only i v n t (ap (λ (m : Moment). slice_get m.entries i) moment ∙ at);
-        met = line_met files (known_at (past_in life) from) (done_at (past_in life) is.place) final.entries is.place event (slice_index chosen.versions event) is.steps is.begun k arrival entry comes
+        met = line_met files (known_at (past_in life) from) (done_at (past_in life) is.place) final.entries is.place event (version_for (run_of files chosen) event arrival) is.steps is.begun k arrival entry comes
             (known (past_in life) from is.place behind) soon;
       }
 
   pub meets : (ordered : (before after : List Link) → goes.chunks ≡ before ++ after → life.origin.tick ≤ (point_behind files chosen begun life goes before).board.tick)
       → MeetsDeadlines files chosen begun life goes from final
-  meets ordered before after chunk z event k arrival split calm comes since due =
+  meets ordered before after chunk place epoch row z event k arrival split epoch_is row_is calm comes since due =
       let start : Point = start_point life.origin (begun goes.plan.layout) in
-      let is : IsOnTime files.program goes.plan (timely.past_of goes.plan start goes.chunks) (row_of chosen) (point_after start before) (chunk ∷ after) z =
-      on_time before after chunk (row_of chosen) files.device.p files.device.q z split facts.feasible calm in
+      let planned_row : slice_get goes.plan.rows place ≡ Some row = ap (λ (rows : List PlanRow). slice_get rows place) goes.is_plan.rows_are ∙ row_is in
+      let is : IsOnTime files.program goes.plan (timely.past_of goes.plan start goes.chunks) row (point_after start before) (chunk ∷ after) z =
+      on_time before after chunk row epoch.p epoch.q z split (facts.feasible place epoch row epoch_is planned_row) calm in
       let there : arrival_at goes.plan.queue.arrivals event k ≡ Some arrival = ap (λ (l : Lists). arrival_at l event k) goes.is_plan.arrivals_are ∙ comes in
       let last : (point_after (point_after start before) (chunk ∷ after)).board.image ≡ image_by (entries_of goes.chunks) life.origin.image =
       ap (λ (p : Point). p.board.image) (after-both start before (chunk ∷ after) ∙ ap (point_after start) (sym split)) ∙ holds.image in

@@ -13,7 +13,7 @@ use Rattle.nv_memory.specs.declared.layout.Layout.{Layout}
 use Rattle.reference_run.specs.Reference.{Moment}
 use Rattle.logged_runs.specs.Laws.{AgreesWithOne, OwnRunsHandleArrivals}
 use Rattle.logged_runs.specs.Own.{AreServedOnce, IsEarlier, IsOwn, schedule_of}
-use Rattle.logged_runs.specs.Reference.{Setting}
+use Rattle.logged_runs.specs.Reference.{IsReference, Setting}
 use Rattle.image_meaning.specs.Laws.{ImagesStandForOne}
 use Rattle.image_meaning.specs.Standing.{StandsFor}
 use Rattle.checkpoint_slots.specs.declared.slot.Slot.{Slot}
@@ -23,14 +23,16 @@ use Rattle.event_arrivals.specs.Spaced.{AreSound}
 use Rattle.cn_scheduler.specs.Chunks.{IsLawful, Link, entries_of}
 use Rattle.cn_scheduler.specs.Point.{Work}
 use Rattle.cn_scheduler.specs.declared.choice.Choice.TheVariants.{Section}
-use Rattle.cn_scheduler.specs.InForce.{begins_by, floor_at, floor_in, in_force}
+use Rattle.cn_scheduler.specs.InForce.{begins_by, floor_at, in_force}
 use Rattle.cn_scheduler.specs.declared.plan.Plan.{Plan}
 use Rattle.cn_scheduler.specs.declared.plan.PlanRow.{PlanRow}
 use Rattle.lawful_timeline.specs.Claims.{AreAbove, Begins, HoldsThroughout, KeepsFloor, LawfulTimelinesHold}
 use Rattle.lawful_timeline.specs.Ending.{HasSaved}
 use Rattle.lawful_timeline.specs.Working.{IsSetUp, setting_of, versions_at, versions_in}
 use Rattle.timely_commits.specs.Timely.{AreOnTime}
-use Rattle.cn_runtime.specs.Planned.{row_of}
+use Rattle.cn_runtime.specs.Planned.{plan_row, plan_rows}
+use Rattle.forecast_table.specs.Epochs.{IsForecast}
+use Rattle.forecast_table.specs.declared.epoch.Epoch.{Epoch}
 use Rattle.recovery.specs.Past.{committed_at, image_at}
 use Rattle.catnap_top.specs.declared.files.ReplayFiles.{ReplayFiles}
 use Rattle.catnap_top.specs.Headline.{KeepsReserve, ShowsRun, past_in, run_of}
@@ -41,35 +43,37 @@ use Rattle.catnap_top.proofs.HeadlineDeadlines.{meets}
 use Rattle.catnap_top.proofs.HeadlineFiles.{PlanFacts}
 use Rattle.catnap_top.proofs.HeadlineText.{ReadsAgain, told_text, shows_text, slot-is, boot-is, commit-is}
 
+-- ---- the floor
+
+above : (rows : List PlanRow) (entries : List Entry) (j : ℕ) (entry : Entry) → AreAbove (floor_at rows) entries → slice_get entries j ≡ Some entry → floor_at rows entry.tick ≤ entry.stored
+above rows [] j entry are is = absurd (cc)
+above rows (e ∷ es) zero entry are is =
+    let same : e ≡ entry = cc in
+    subst (λ (x : Entry). floor_at rows x.tick ≤ x.stored) same are.0
+above rows (e ∷ es) (suc j) entry are is = above rows es j entry are.1 is
+
+keeps : (plan : Plan) (chunks : List Link) → KeepsFloor plan chunks → KeepsReserve plan.rows chunks
+keeps plan [] floor i j chunk entry is section at = absurd (cc)
+keeps plan (c ∷ cs) floor zero j chunk entry is section at =
+    let same : c ≡ chunk = cc in
+    let kind : c.choice ≡ Section = ap (λ (l : Link). l.choice) same ∙ section in
+    above plan.rows c.entries j entry (floor.0 kind) (ap (λ (l : Link). slice_get l.entries j) same ∙ at)
+keeps plan (c ∷ cs) floor (suc i) j chunk entry is section at = keeps plan cs floor.1 i j chunk entry is section at
+
 -- ---- one row
 
 begins : (row : PlanRow) (t : ℕ) → row.from ≡ 0 → begins_by t row ≡ true
 begins row t from = grind (arith, nat_tests)
 
-only_row : (chosen : Chosen) (t : ℕ) → in_force (row_of chosen ∷ []) t ≡ Some (row_of chosen)
-only_row chosen t = rw (begins (row_of chosen) t refl) refl
+-- the row of a forecast that has one alone is in force at all ticks
+only_row : (row : PlanRow) (t : ℕ) → row.from ≡ 0 → in_force (row ∷ []) t ≡ Some row
+only_row row t from = rw (begins row t from) refl
 
-row_at : (chosen : Chosen) (rows : List PlanRow) (t : ℕ) → rows ≡ row_of chosen ∷ [] → in_force rows t ≡ Some (row_of chosen)
-row_at chosen rows t is = ap (λ (rs : List PlanRow). in_force rs t) is ∙ only_row chosen t
-
--- ---- the floor
-
-above : (chosen : Chosen) (rows : List PlanRow) (entries : List Entry) (j : ℕ) (entry : Entry) → rows ≡ row_of chosen ∷ [] → AreAbove (floor_at rows) entries
-    → slice_get entries j ≡ Some entry → chosen.numbers.reserve + chosen.numbers.checkpoint ≤ entry.stored
-above chosen rows [] j entry one are is = absurd (cc)
-above chosen rows (e ∷ es) zero entry one are is =
-    let same : e ≡ entry = cc in
-    let low : floor_at rows e.tick ≡ chosen.numbers.reserve + chosen.numbers.checkpoint = ap (λ (o : Option PlanRow). option_map_or floor_in o 0) (row_at chosen rows e.tick one) in
-    subst (λ (x : Entry). chosen.numbers.reserve + chosen.numbers.checkpoint ≤ x.stored) same (omega (arith, low, are.0))
-above chosen rows (e ∷ es) (suc j) entry one are is = above chosen rows es j entry one are.1 is
-
-keeps : (chosen : Chosen) (plan : Plan) (chunks : List Link) → plan.rows ≡ row_of chosen ∷ [] → KeepsFloor plan chunks → KeepsReserve chosen chunks
-keeps chosen plan [] one floor i j chunk entry is section at = absurd (cc)
-keeps chosen plan (c ∷ cs) one floor zero j chunk entry is section at =
-    let same : c ≡ chunk = cc in
-    let kind : c.choice ≡ Section = ap (λ (l : Link). l.choice) same ∙ section in
-    above chosen plan.rows c.entries j entry one (floor.0 kind) (ap (λ (l : Link). slice_get l.entries j) same ∙ at)
-keeps chosen plan (c ∷ cs) one floor (suc i) j chunk entry is section at = keeps chosen plan cs one floor.1 i j chunk entry is section at
+-- the versions are then the same at all ticks
+one_version : (rows : List Epoch) (one : Chosen) (t : ℕ) → IsForecast rows → length rows ≡ 1 → versions_at (plan_rows rows (one ∷ [])) t ≡ one.versions
+one_version [] one t is count = absurd (omega (arith, count))
+one_version (row ∷ []) one t is count = ap (λ (o : Option PlanRow). option_map_or versions_in o []) (only_row (plan_row row one) t (is.first row))
+one_version (row ∷ other ∷ more) one t is count = absurd (omega (arith, count))
 
 -- ---- what the images stand for
 
@@ -80,21 +84,28 @@ record Stand (s : Setting) (l : Layout) (first : List ℕ) (timeline : List Entr
   earlier : (i j : ℕ) (m n : Moment) → i ≤ j → j ≤ length timeline → StandsFor l s.program (image_by (take i timeline) first) m
       → StandsFor l s.program (image_by (take j timeline) first) n → IsEarlier s m n
 
-module _ (again : ReadsAgain) (files : ReplayFiles) (chosen : Chosen) (begun : Layout → Work) (life : Life) (goes : Goes files chosen begun life) (checked : IsChecked files.program)
+module _ (again : ReadsAgain) (files : ReplayFiles) (chosen : List Chosen) (begun : Layout → Work) (life : Life) (goes : Goes files chosen begun life) (checked : IsChecked files.program)
     (set_up : IsSetUp files.program goes.plan) (lawful : LawfulTimelinesHold files.program goes.plan)
     (begins : Begins files.program goes.plan (start_point life.origin (begun goes.plan.layout))) (saved : HasSaved files.program goes.plan (first_state life.origin))
     (facts : PlanFacts files chosen goes.plan)
     (on_time : AreOnTime files.program files.device facts.bounds goes.plan life.origin.tick (start_point life.origin (begun goes.plan.layout)) goes.chunks)
-    (one : ImagesStandForOne goes.plan.layout files.program) (agrees : AgreesWithOne files.program chosen.versions files.arrivals)
+    (one : ImagesStandForOne goes.plan.layout files.program) (agrees : (versions : List ℕ) → AgreesWithOne files.program versions files.arrivals)
+    (forecast : IsForecast files.forecast) (count : length chosen ≡ length files.forecast)
     (sound : AreSound files.arrivals) (counted : AreCounted files.arrivals) (handled : OwnRunsHandleArrivals (run_of files chosen)) where
   holds : HoldsThroughout files.program goes.plan (start_point life.origin (begun goes.plan.layout)) goes.chunks
   holds = lawful.holds (start_point life.origin (begun goes.plan.layout)) goes.chunks set_up begins goes.lawful
 
   setting_is : setting_of files.program goes.plan ≡ run_of files chosen
   setting_is =
-      let versions : (t : ℕ) → versions_at goes.plan.rows t ≡ chosen.versions =
-      λ t. ap (λ (o : Option PlanRow). option_map_or versions_in o []) (row_at chosen goes.plan.rows t goes.is_plan.rows_are) in
-      λ i. record { program = files.program; versions = λ t. versions t i; arrivals = goes.is_plan.arrivals_are i }
+      λ i. record { program = files.program; versions = versions_at (goes.is_plan.rows_are i); arrivals = goes.is_plan.arrivals_are i }
+
+  -- with one row the run is one of fixed versions
+  fixed_is : (c : Chosen) → chosen ≡ c ∷ [] → run_of files chosen ≡ record { program = files.program; versions = λ tick. c.versions; arrivals = files.arrivals }
+  fixed_is c alone =
+      let single : length files.forecast ≡ 1 = sym count ∙ ap (λ (l : List Chosen). length l) alone in
+      let versions : (t : ℕ) → versions_at (plan_rows files.forecast chosen) t ≡ c.versions =
+      λ t. ap (λ (l : List Chosen). versions_at (plan_rows files.forecast l) t) alone ∙ one_version files.forecast c t forecast single in
+      λ i. record { program = files.program; versions = λ t. versions t i; arrivals = files.arrivals }
 
   timeline_is : life.state.timeline ≡ entries_of goes.chunks
   timeline_is = ap (λ (s : State). s.timeline) (sym goes.leads) ∙ holds.timeline
@@ -135,7 +146,8 @@ module _ (again : ReadsAgain) (files : ReplayFiles) (chosen : Chosen) (begun : L
       record {
         final = last.0;
         reference = last.2;
-        interpreted = (agrees.same (schedule_of last.0.entries last.0.steps) last.0).0 last.2;
+        interpreted = λ c alone. ((agrees c.versions).same (schedule_of last.0.entries last.0.steps) last.0).0
+            (subst (λ (s : Setting). IsReference s (schedule_of last.0.entries last.0.steps) last.0) (fixed_is c alone) last.2);
         text_is = text_is ∙ shows_text again files checked chosen life words from last.0 last.1;
         start = record { moment = saved.moment; stands = first_stands; own = first_own; earlier = first_earlier; many = many };
         moments = λ k entry is.
@@ -150,7 +162,7 @@ module _ (again : ReadsAgain) (files : ReplayFiles) (chosen : Chosen) (begun : L
               commit = λ left op done. commit-is files.program (past_in life) k entry here.0 is here.1 done left op;
             };
         once = last.3;
-        reserve = keeps chosen goes.plan goes.chunks goes.is_plan.rows_are holds.floor;
+        reserve = subst (λ (rows : List PlanRow). KeepsReserve rows goes.chunks) goes.is_plan.rows_are (keeps goes.plan goes.chunks holds.floor);
         deadlines =
             meets files chosen begun life goes facts on_time one holds setting_is timeline_is last.0 stands from
             (λ event k place steps t arrival entry comes since.

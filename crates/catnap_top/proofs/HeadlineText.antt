@@ -30,7 +30,7 @@ use Rattle.cn_report.specs.Outcome.{end_line, known_at, log_line, log_text, reco
 use Rattle.cn_report.specs.Whole.{resumed_text}
 use Rattle.recovery.specs.Past.{Past, committed_at, end_of, entry_in, image_at, last_image, last_slot}
 use Rattle.cn_base.specs.Texts.{in_turn, line}
-use Rattle.cn_report.specs.Report.{choice_text}
+use Rattle.cn_report.specs.Report.{rows_text}
 use Rattle.cn_report.specs.Story.{done_line, dropped_text, entry_line, lost_line, moment_line, slot_line, story_text}
 use Rattle.catnap_top.specs.declared.files.ReplayFiles.{ReplayFiles}
 use Rattle.catnap_top.specs.Headline.{line_at, past_in, run_log, run_text, run_variables, words_in}
@@ -49,7 +49,7 @@ slot-is program past n v committed = committed.slot_is
 -- ---- the log
 
 abbrev pub ReadsAgain : Type 0
-ReadsAgain = (l : Layout) (entry : LogEntry) → EntryFits entry → entry_of l (record_of l entry) ≡ entry
+ReadsAgain = (l : Layout) (entry : LogEntry) → EntryFits l entry → entry_of l (record_of l entry) ≡ entry
 
 log-is : ReadsAgain → (files : ReplayFiles) (past : Past) (from : ℕ) (v : Committed) → IsCommitted past.layout files.program (last_image past) v
     → log_text files.program.headers files.arrivals past from ≡ run_log files (known_at past from) v.entries
@@ -104,11 +104,11 @@ slot-words program l image v committed =
     ∙ length-map (range_with_len 3 l.words) (number_at (committed_bytes l image))
     ∙ length-range_with_len 3 l.words
 
-module _ (again : ReadsAgain) (files : ReplayFiles) (checked : IsChecked files.program) (chosen : Chosen) (life : Life)
+module _ (again : ReadsAgain) (files : ReplayFiles) (checked : IsChecked files.program) (chosen : List Chosen) (life : Life)
     (words : life.layout.words ≡ length files.program.words) (from : ℕ) where
   -- the text of its report
   abbrev pub told_text : List ℕ
-  told_text = resumed_text files.program.headers files.program.variables chosen files.arrivals (past_in life) from life.state.tick life.state.stored life.end
+  told_text = resumed_text files.program.headers files.program.variables files.given files.forecast chosen files.arrivals (past_in life) from life.state.tick life.state.stored life.end
 
   shows_value : (v : Committed) → IsCommitted life.layout files.program (last_image (past_in life)) v → told_text ≡ run_text files chosen life from (moment_of v)
   shows_value v committed =
@@ -119,7 +119,7 @@ module _ (again : ReadsAgain) (files : ReplayFiles) (checked : IsChecked files.p
       let variables : variables_text (last_slot past) files.program.variables ≡ run_variables files.program.variables (variables_of v.slot) =
       ap (λ (s : Slot). variables_text s files.program.variables) slot
       ∙ variables-are v.slot files.program.variables 0 (subst (λ n. IsLaidOut 0 files.program.variables n) (sym size) checked.laid_out) in
-      λ i. choice_text files.program.headers chosen
+      λ i. rows_text files.program.headers files.given files.forecast chosen
       ++ (dropped_text files.program.headers files.arrivals.dropped
       ++ (story_text past ++ (log i ++ (end_line life.state.tick life.state.stored (slot i).steps life.end ++ variables i))))
 

@@ -83,10 +83,10 @@ module _ (p : Purpose) (file : List ℕ) (lt : most_bytes < length file) where
   fault_long kind.Schedule at is = absurd (no_size (λ k less. is.earlier k (omega (arith, less))))
   fault_long kind.State at is = absurd (no_size (λ k less. is.earlier k (omega (arith, less))))
 
-pub image_long : (files : ReplayFiles) (chosen : Chosen) (file : List ℕ) (came : Result Start BadImage) → most_bytes < length file
+pub image_long : (files : ReplayFiles) (chosen : List Chosen) (file : List ℕ) (came : Result Start BadImage) → most_bytes < length file
     → IsImage files chosen (front file) came → IsImage files chosen file came
 image_long files chosen file (Ok start) lt is =
-    let fit : IsFit (purpose_in files chosen is.l) (front file) = is.verdict.0 in
+    let fit : IsFit (purpose_in files is.one is.l) (front file) = is.verdict.0 in
     absurd (not_size is.l (front file) (front_more file lt) (fit kind.Size))
 image_long files chosen file (Err bad) lt is =
-    record { l = is.l; layout = is.layout; verdict = fault_long (purpose_in files chosen is.l) file lt bad.kind bad.at is.verdict }
+    record { one = is.one; alone = is.alone; l = is.l; layout = is.layout; verdict = fault_long (purpose_in files is.one is.l) file lt bad.kind bad.at is.verdict }

@@ -15,7 +15,9 @@ use Rattle.std.proofs.lemmas.List.{length-replicate}
 use Rattle.recovery.specs.First.{IsFresh}
 use Rattle.recovery.specs.Committed.{IsCommitted}
 use Rattle.degradation.specs.declared.chosen.Chosen.{Chosen}
-use Rattle.degradation.specs.Choice.{supply_of, Suits}
+use Rattle.degradation.specs.Choice.{Suits}
+use Rattle.forecast_table.specs.declared.epoch.Epoch.{Epoch}
+use Rattle.std.specs.Prelude.{Bool, All}
 use Rattle.degradation.specs.Placed.{IsLayoutOf}
 use Rattle.board_core.specs.declared.origin.ModelOrigin.{ModelOrigin}
 use Rattle.board_core.specs.Reached.{IsReached, first_state, model_start}
@@ -48,16 +50,17 @@ use Rattle.catnap_top.specs.Replayed.{lived_of, HasEnded, IsReadyToTell}
 
 -- ---- the versions
 
-pub replay_stops : (p : Checked) (d : Device) (f : PrepareFault) → IsRefused p d f → Stops (versions_in p d (supply_of d)) (stop_of_replay f)
-replay_stops p d (prepare.WindowTooLong spacing) h =
-    fails (none.Window spacing) (record { l = h.layout; b = h.bounds; layout = h.is_layout; bounds = h.are_bounds; choice = h.none }) refl
-replay_stops p d (prepare.Rejected verdict) h =
-    fails (none.Rejected verdict) (record { l = h.layout; b = h.bounds; layout = h.is_layout; bounds = h.are_bounds; choice = h.none }) refl
-replay_stops p d prepare.NoMemory h = tt
+pub replay_stops : (p : Checked) (d : Device) (given : Bool) (rows : List Epoch) (f : PrepareFault) → IsRefused p d rows f → Stops (versions_in p d given rows) (stop_of_replay given f)
+replay_stops p d given rows (prepare.WindowTooLong number spacing) h =
+    fails (number, none.Window spacing) (record { l = h.layout; b = h.bounds; layout = h.is_layout; bounds = h.are_bounds; choices = h.refused }) refl
+replay_stops p d given rows (prepare.Rejected number verdict) h =
+    fails (number, none.Rejected verdict) (record { l = h.layout; b = h.bounds; layout = h.is_layout; bounds = h.are_bounds; choices = h.refused }) refl
+replay_stops p d given rows prepare.NoMemory h = tt
 
-pub chosen_in : (p : Checked) (d : Device) (l : Layout) (chosen : Chosen) → IsLayoutOf p d l → IsChosenFor p d l chosen → versions_in p d (supply_of d) (Ok chosen)
-chosen_in p d l chosen layout is =
-    fits chosen (record { l = l; b = is.bounds; layout = layout; bounds = is.are_bounds; choice = is.choice }) refl
+pub chosen_in : (p : Checked) (d : Device) (given : Bool) (rows : List Epoch) (l : Layout) (chosen : List Chosen) → IsLayoutOf p d l → IsChosenFor p d l rows chosen
+    → versions_in p d given rows (Ok chosen)
+chosen_in p d given rows l chosen layout is =
+    fits chosen (record { l = l; b = is.bounds; layout = layout; bounds = is.are_bounds; choices = is.choices }) refl
 
 -- ---- the report
 
@@ -79,8 +82,8 @@ told p plan start end s is none =
     }
 
 -- a lawful timeline that a board came to by its rules is one of what the files call for
-pub goes_as : (files : ReplayFiles) (chosen : Chosen) (plan : Plan) (origin : ModelOrigin) (begun : Layout → Work) (start : Point) (end : End) (s : State)
-    → IsPlanFor files.program files.device files.arrivals chosen plan → origin.trace ≡ files.trace → origin.fails ≡ files.failures → origin.device ≡ files.device
+pub goes_as : (files : ReplayFiles) (chosen : List Chosen) (plan : Plan) (origin : ModelOrigin) (begun : Layout → Work) (start : Point) (end : End) (s : State)
+    → IsPlanFor files.program files.device files.arrivals files.forecast chosen plan → origin.trace ≡ files.trace → origin.fails ≡ files.failures → origin.device ≡ files.device
     → start ≡ start_point origin (begun plan.layout) → IsReplayed files.program plan start end s → IsReached origin s
     → Goes files chosen begun (record { layout = plan.layout; origin = origin; state = s; end = end })
 goes_as files chosen plan origin begun start end s is_plan trace failing device first is reached =
@@ -102,7 +105,7 @@ goes_as files chosen plan origin begun start end s is_plan trace failing device 
 -- ---- a replay that has ended
 
 module _ (files : ReplayFiles) (before : Prepared) (engine : Engine) (o0 : ModelOrigin) (s0 : State) (board : ModelBoard) (end : End) (shadow : Shadow)
-    (is : IsPrepared files.program files.device files.arrivals before) (same : origin_of board ≡ o0) (begins : s0 ≡ first_state o0)
+    (is : IsPrepared files.program files.device files.arrivals files.forecast before) (same : origin_of board ≡ o0) (begins : s0 ≡ first_state o0)
     (trace : o0.trace ≡ files.trace) (failing : o0.fails ≡ files.failures) (device : o0.device ≡ files.device) (tick : o0.tick ≡ 0) (stored : o0.stored ≡ files.device.start)
     (fresh : IsFresh before.program before.plan.layout o0.image) (replayed : IsReplayed before.program before.plan (point_of before.engine s0) end (state_of board))
     (reached : IsReached (origin_of board) (state_of board)) (made : IsMadeFor before.plan.layout shadow.slot) where
@@ -131,24 +134,25 @@ module _ (files : ReplayFiles) (before : Prepared) (engine : Engine) (o0 : Model
         fresh = fresh';
       }
 
-  pub looks : living files (Ok (lived_of (record { prepared = record before { engine = engine }; board = board; end = end; shadow = shadow })))
+  pub looks : living files (Ok (lived_of (record { prepared = record before { engine = engine }; given = files.given; board = board; end = end; shadow = shadow })))
   looks =
       let traced : (origin_of board).trace ≡ files.trace = ap (λ (o : ModelOrigin). o.trace) same ∙ trace in
       let failed : (origin_of board).fails ≡ files.failures = ap (λ (o : ModelOrigin). o.fails) same ∙ failing in
       let life : Life = record { layout = before.plan.layout; origin = origin_of board; state = state_of board; end = end } in
-      goes before.chosen (chosen_in files.program files.device before.plan.layout before.chosen is.plan.layout_is is.chosen)
+      goes before.chosen (chosen_in files.program files.device files.given files.forecast before.plan.layout before.chosen is.plan.layout_is is.chosen)
       (goes life (record { x = life; holds = one_life; came_is = refl })
       (λ i. Ok (record {
-        files = record { program = is.program_is i; device = is.device_is i; trace = traced i; arrivals = is.plan.arrivals_are i; failures = failed i };
+        files = record { program = is.program_is i; device = is.device_is i; trace = traced i; arrivals = is.plan.arrivals_are i; failures = failed i; given = files.given; forecast = is.forecast_is i };
         chosen = before.chosen;
         life = life;
       })))
 
-  pub ready : IsReadyToTell (record { prepared = record before { engine = engine }; board = board; end = end; shadow = shadow })
+  pub ready : IsReadyToTell (record { prepared = record before { engine = engine }; given = files.given; board = board; end = end; shadow = shadow })
   ready =
       let back = sym is.program_is in
       record {
-        suits = subst (λ (p : Checked). Suits p before.chosen) back is.chosen.suits;
+        count = is.chosen.choices.count ∙ sym (ap (λ (rows : List Epoch). length rows) is.forecast_is);
+        suits = subst (λ (p : Checked). All (Suits p) before.chosen) back is.chosen.suit;
         events = is.set_up.plan_is.queue ∙ ap (λ (p : Checked). length p.events) back;
         fresh = subst (λ (p : Checked). IsFresh p before.plan.layout (origin_of board).image) back fresh';
         replayed = subst (λ (p : Checked). IsTold p (past_of before.plan.layout (model_start (origin_of board)) (state_of board))) back
@@ -159,8 +163,8 @@ module _ (files : ReplayFiles) (before : Prepared) (engine : Engine) (o0 : Model
 
 -- what has ended is what the files call for, and can be told
 tells : (r : Replayed) (files : ReplayFiles) (before : Prepared) (trace : List TraceRow) (failures : List Failure) (device : Device)
-    → IsPrepared files.program files.device files.arrivals before → trace ≡ files.trace → failures ≡ files.failures → device ≡ files.device
-    → HasEnded before trace failures device r → (living files (Ok (lived_of r))) × IsReadyToTell r
+    → IsPrepared files.program files.device files.arrivals files.forecast before → trace ≡ files.trace → failures ≡ files.failures → device ≡ files.device
+    → HasEnded before files.given trace failures device r → (living files (Ok (lived_of r))) × IsReadyToTell r
 tells r files before trace failures device is t f d h =
     let b = h.begun in
     let stored : (origin_of h.first).stored ≡ files.device.start = b.stored_is ∙ ap (λ (x : Device). x.start) d in
@@ -168,19 +172,20 @@ tells r files before trace failures device is t f d h =
     (b.device_is ∙ d) b.tick_is stored b.fresh h.replayed h.reached h.made in
     let w = ready files before r.prepared.engine (origin_of h.first) (state_of h.first) r.board r.end r.shadow is h.same b.state_is (b.trace_is ∙ t) (b.fails_are ∙ f)
     (b.device_is ∙ d) b.tick_is stored b.fresh h.replayed h.reached h.made in
-    let back : (record before { engine = r.prepared.engine }) ≡ r.prepared = sym h.others in (
-      subst (λ (p : Prepared). living files (Ok (lived_of (record { prepared = p; board = r.board; end = r.end; shadow = r.shadow })))) back l,
-      subst (λ (p : Prepared). IsReadyToTell (record { prepared = p; board = r.board; end = r.end; shadow = r.shadow })) back w,
-    )
+    let back : (record before { engine = r.prepared.engine }) ≡ r.prepared = sym h.others in
+    let given : files.given ≡ r.given = sym h.given_is in
+    let whole : record { prepared = record before { engine = r.prepared.engine }; given = files.given; board = r.board; end = r.end; shadow = r.shadow } ≡ r =
+    λ i. record { prepared = back i; given = given i; board = r.board; end = r.end; shadow = r.shadow } in
+    (subst (λ (x : Replayed). living files (Ok (lived_of x))) whole l, subst IsReadyToTell whole w)
 
 pub tells_looks : (r : Replayed) (files : ReplayFiles) (before : Prepared) (trace : List TraceRow) (failures : List Failure) (device : Device)
-    → IsPrepared files.program files.device files.arrivals before → trace ≡ files.trace → failures ≡ files.failures → device ≡ files.device
-    → HasEnded before trace failures device r → living files (Ok (lived_of r))
+    → IsPrepared files.program files.device files.arrivals files.forecast before → trace ≡ files.trace → failures ≡ files.failures → device ≡ files.device
+    → HasEnded before files.given trace failures device r → living files (Ok (lived_of r))
 tells_looks r files before trace failures device is t f d h = (tells r files before trace failures device is t f d h).0
 
 pub tells_written : (r : Replayed) (files : ReplayFiles) (before : Prepared) (trace : List TraceRow) (failures : List Failure) (device : Device)
-    → IsPrepared files.program files.device files.arrivals before → trace ≡ files.trace → failures ≡ files.failures → device ≡ files.device
-    → HasEnded before trace failures device r → IsReadyToTell r
+    → IsPrepared files.program files.device files.arrivals files.forecast before → trace ≡ files.trace → failures ≡ files.failures → device ≡ files.device
+    → HasEnded before files.given trace failures device r → IsReadyToTell r
 tells_written r files before trace failures device is t f d h = (tells r files before trace failures device is t f d h).1
 
 -- ---- the first image

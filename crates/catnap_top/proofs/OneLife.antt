@@ -1,5 +1,5 @@
 -- Files and versions call for one life.
-use Rattle.std.proofs.Common.{◌≡◌, ◌≤◌, ℕ, true, refl, sym, ap, ◌∙◌, subst}
+use Rattle.std.proofs.Common.{◌≡◌, ◌≤◌, ℕ, List, true, refl, sym, ap, ◌∙◌, subst}
 use Rattle.std.proofs.Math.Path.{PathP, to_path_p}
 use Rattle.std.specs.Coded.{le_prop}
 use Rattle.cn_base.specs.declared.TheConstants.{MOST_TICKS}
@@ -13,6 +13,7 @@ use Rattle.recovery.specs.First.{IsFresh}
 use Rattle.recovery.specs.Laws.{FirstImageIsOne}
 use Rattle.event_arrivals.specs.Arrivals.{Lists}
 use Rattle.degradation.specs.declared.chosen.Chosen.{Chosen}
+use Rattle.forecast_table.specs.declared.epoch.Epoch.{Epoch}
 use Rattle.board_core.specs.declared.origin.ModelOrigin.{ModelOrigin}
 use Rattle.board_core.specs.Laws.{RulesDecide}
 use Rattle.cn_scheduler.specs.declared.plan.Plan.{Plan}
@@ -56,14 +57,15 @@ end_same LogFull LogFull one other same x y = refl
 -- ---- where they begin
 
 module _ (laws : OneLaws) where
-  plan_one : (program : Checked) (device : Device) (arrivals : Lists) (chosen : Chosen) (a b : Plan) → IsPlanFor program device arrivals chosen a → IsPlanFor program device arrivals chosen b → a ≡ b
-  plan_one program device arrivals chosen a b x y =
+  plan_one : (program : Checked) (device : Device) (arrivals : Lists) (forecast : List Epoch) (chosen : List Chosen) (a b : Plan) → IsPlanFor program device arrivals forecast chosen a
+      → IsPlanFor program device arrivals forecast chosen b → a ≡ b
+  plan_one program device arrivals forecast chosen a b x y =
       let code : a.code ≡ b.code = x.code_is ∙ sym y.code_is in
       let rows : a.rows ≡ b.rows = x.rows_are ∙ sym y.rows_are in
       let wake : a.wake_units ≡ b.wake_units = x.wake_is ∙ sym y.wake_is in
       let lists : a.queue.arrivals ≡ b.queue.arrivals = x.arrivals_are ∙ sym y.arrivals_are in
       let deadlines : a.queue.deadlines ≡ b.queue.deadlines = x.deadlines_are ∙ sym y.deadlines_are in
-      let layout : a.layout ≡ b.layout = laws.layouts a.layout b.layout (x.layout_is.words ∙ sym y.layout_is.words) (x.layout_is.tasks ∙ sym y.layout_is.tasks) (x.layout_is.events ∙ sym y.layout_is.events) (x.layout_is.log ∙ sym y.layout_is.log) in
+      let layout : a.layout ≡ b.layout = laws.layouts a.layout b.layout (x.layout_is.words ∙ sym y.layout_is.words) (x.layout_is.tasks ∙ sym y.layout_is.tasks) (x.layout_is.events ∙ sym y.layout_is.events) (x.layout_is.log ∙ sym y.layout_is.log) (x.layout_is.format ∙ sym y.layout_is.format) (x.layout_is.base ∙ sym y.layout_is.base) in
       λ i. record { code = code i; rows = rows i; wake_units = wake i; queue = record { arrivals = lists i; deadlines = deadlines i }; layout = layout i }
 
   origin_one : (a b : ModelOrigin) → a.trace ≡ b.trace → a.fails ≡ b.fails → a.device ≡ b.device → a.tick ≡ b.tick → a.stored ≡ b.stored → a.image ≡ b.image → a ≡ b
@@ -87,15 +89,15 @@ module _ (laws : OneLaws) where
   abbrev EndedAt : Plan → ModelOrigin → Work → Chunk → State → Type 0
   EndedAt plan origin work outcome state = HasEnded plan origin (start_point origin work) outcome state
 
-  module _ (files : ReplayFiles) (chosen : Chosen) (begun : Layout → Work) where
+  module _ (files : ReplayFiles) (chosen : List Chosen) (begun : Layout → Work) where
     ended_at : (life : Life) (x : Goes files chosen begun life) → EndedAt x.plan life.origin (begun x.plan.layout) (last_outcome x.chunks) life.state
     ended_at life x = record { chunks = x.chunks; lawful = x.lawful; leads = x.leads; ends = refl; last = end_last life.end (last_outcome x.chunks) x.ends; reached = x.reached }
 
     plans : (a b : Life) (x : Goes files chosen begun a) (y : Goes files chosen begun b) → x.plan ≡ y.plan
-    plans a b x y = plan_one files.program files.device files.arrivals chosen x.plan y.plan x.is_plan y.is_plan
+    plans a b x y = plan_one files.program files.device files.arrivals files.forecast chosen x.plan y.plan x.is_plan y.is_plan
 
     -- from one board, and one working value from which it begins
-    goes_one : (a b : Life) (x : Goes files chosen begun a) (y : Goes files chosen begun b) → ((plan : Plan) → IsPlanFor files.program files.device files.arrivals chosen plan → IsSetUp files.program plan)
+    goes_one : (a b : Life) (x : Goes files chosen begun a) (y : Goes files chosen begun b) → ((plan : Plan) → IsPlanFor files.program files.device files.arrivals files.forecast chosen plan → IsSetUp files.program plan)
         → a.origin ≡ b.origin → Begins files.program x.plan (start_point a.origin (begun x.plan.layout)) → a ≡ b
     goes_one a b x y set_up origin begins =
         let plan = plans a b x y in
@@ -108,7 +110,7 @@ module _ (laws : OneLaws) where
         let end : a.end ≡ b.end = end_same a.end b.end (last_outcome x.chunks) (last_outcome y.chunks) same.0 x.ends y.ends in
         λ i. record { layout = layout i; origin = origin i; state = same.1 i; end = end i }
 
-  pub life_one : (files : ReplayFiles) (chosen : Chosen) (a b : Life) → ((plan : Plan) → IsPlanFor files.program files.device files.arrivals chosen plan → IsSetUp files.program plan)
+  pub life_one : (files : ReplayFiles) (chosen : List Chosen) (a b : Life) → ((plan : Plan) → IsPlanFor files.program files.device files.arrivals files.forecast chosen plan → IsSetUp files.program plan)
       → Lives files chosen a → Lives files chosen b → a ≡ b
   life_one files chosen a b set_up h k =
       let x = h.goes in
@@ -123,7 +125,7 @@ module _ (laws : OneLaws) where
       goes_one files chosen (first_work files.program) a b x y set_up origin begins
 
   -- a life that goes on from what was saved
-  pub rest_one : (files : ReplayFiles) (chosen : Chosen) (start : Start) (a b : Life) → ((plan : Plan) → IsPlanFor files.program files.device files.arrivals chosen plan → IsSetUp files.program plan)
+  pub rest_one : (files : ReplayFiles) (chosen : List Chosen) (start : Start) (a b : Life) → ((plan : Plan) → IsPlanFor files.program files.device files.arrivals files.forecast chosen plan → IsSetUp files.program plan)
       → ((goes : GoesOn files chosen start a) → Begins files.program goes.goes.plan (start_point a.origin (committed_work start.image goes.goes.plan.layout)))
       → GoesOn files chosen start a → GoesOn files chosen start b → a ≡ b
   rest_one files chosen start a b set_up begins h k =

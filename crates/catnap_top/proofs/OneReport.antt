@@ -13,7 +13,8 @@ use Rattle.cn_scheduler.specs.declared.plan.Plan.{Plan}
 use Rattle.cn_scheduler.specs.Point.{Point, Work}
 use Rattle.lawful_timeline.specs.Starting.{first_work}
 use Rattle.cn_scheduler.specs.Chunks.{IsLawful, point_after}
-use Rattle.cn_runtime.specs.Planned.{IsPlanFor}
+use Rattle.cn_runtime.specs.Planned.{IsPlanFor, plan_rows}
+use Rattle.forecast_table.specs.declared.epoch.Epoch.{Epoch}
 use Rattle.recovery.specs.Past.{past_of}
 use Rattle.cn_report.specs.Whole.{report_text, resumed_text}
 use Rattle.same_program.specs.Same.{IsSame}
@@ -32,12 +33,12 @@ abbrev pub SameCode : Type 0
 SameCode = (p q : Checked) → IsSame p q → code_of p ≡ code_of q
 
 module _ (code : SameCode) (x y : ReplayFiles) (same : AreSameFiles x y) where
-  plan_same : (c : Chosen) (plan : Plan) → IsPlanFor x.program x.device x.arrivals c plan → IsPlanFor y.program y.device y.arrivals c plan
+  plan_same : (c : List Chosen) (plan : Plan) → IsPlanFor x.program x.device x.arrivals x.forecast c plan → IsPlanFor y.program y.device y.arrivals y.forecast c plan
   plan_same c plan is =
       let alike = same.program.same in
       record {
         code_is = is.code_is ∙ code x.program y.program alike;
-        rows_are = is.rows_are;
+        rows_are = is.rows_are ∙ ap (λ (rows : List Epoch). plan_rows rows c) same.forecast;
         wake_is = is.wake_is ∙ ap (λ (d : Device). d.wake.bound) same.device;
         arrivals_are = is.arrivals_are ∙ same.arrivals;
         deadlines_are = is.deadlines_are ∙ ap (λ (headers : List Event). map (λ (header : Event). header.deadline) headers) alike.headers;
@@ -77,7 +78,7 @@ module _ (code : SameCode) (x y : ReplayFiles) (same : AreSameFiles x y) where
       }
 
   -- from one working value
-  goes_same : (c : Chosen) (begun after : Layout → Work) (life : Life) → begun ≡ after → Goes x c begun life → Goes y c after life
+  goes_same : (c : List Chosen) (begun after : Layout → Work) (life : Life) → begun ≡ after → Goes x c begun life → Goes y c after life
   goes_same c begun after life equal is =
       let first : start_point life.origin (begun is.plan.layout) ≡ start_point life.origin (after is.plan.layout) = ap (λ (f : Layout → Work). start_point life.origin (f is.plan.layout)) equal in
       record {
@@ -99,7 +100,7 @@ module _ (code : SameCode) (x y : ReplayFiles) (same : AreSameFiles x y) where
       let alike = same.program.same in
       λ i l. record { words = alike.words i; posts = alike.started i; place = None; len = 0; steps = 0; done = replicate l.events 0 }
 
-  lives_same : (c : Chosen) (life : Life) → Lives x c life → Lives y c life
+  lives_same : (c : List Chosen) (life : Life) → Lives x c life → Lives y c life
   unfolding goes_same
   lives_same c life is =
       record {
@@ -109,7 +110,7 @@ module _ (code : SameCode) (x y : ReplayFiles) (same : AreSameFiles x y) where
         fresh = fresh_same is.goes.plan.layout life.origin.image is.fresh;
       }
 
-  rest_same : (c : Chosen) (start : Start) (life : Life) → GoesOn x c start life → GoesOn y c start life
+  rest_same : (c : List Chosen) (start : Start) (life : Life) → GoesOn x c start life → GoesOn y c start life
   rest_same c start life is =
       record {
         goes = goes_same c (committed_work start.image) (committed_work start.image) life refl is.goes;
@@ -119,17 +120,17 @@ module _ (code : SameCode) (x y : ReplayFiles) (same : AreSameFiles x y) where
       }
 
   -- where there is one life
-  pub life_agrees : (c e : Chosen) → ((a b : Life) → Lives y c a → Lives y c b → a ≡ b) → c ≡ e → Agree (λ (a b : Life). a ≡ b) (life_in x c) (life_in y e)
+  pub life_agrees : (c e : List Chosen) → ((a b : Life) → Lives y c a → Lives y c b → a ≡ b) → c ≡ e → Agree (λ (a b : Life). a ≡ b) (life_in x c) (life_in y e)
   life_agrees c e one equal =
       finding_agree (λ (a b : Life). a ≡ b) (Lives x c) (Lives y e)
-      (λ a b h k. one a b (lives_same c a h) (subst (λ (v : Chosen). Lives y v b) (sym equal) k))
+      (λ a b h k. one a b (lives_same c a h) (subst (λ (v : List Chosen). Lives y v b) (sym equal) k))
 
   -- so it is where a life goes on
-  pub rest_agrees : (c e : Chosen) (start after : Start) → ((a b : Life) → GoesOn y c start a → GoesOn y c start b → a ≡ b) → c ≡ e → start ≡ after
+  pub rest_agrees : (c e : List Chosen) (start after : Start) → ((a b : Life) → GoesOn y c start a → GoesOn y c start b → a ≡ b) → c ≡ e → start ≡ after
       → Agree (λ (a b : Life). a ≡ b) (going_on x c start) (going_on y e after)
   rest_agrees c e start after one equal begun =
       finding_agree (λ (a b : Life). a ≡ b) (GoesOn x c start) (GoesOn y e after)
-      (λ a b h k. one a b (rest_same c start a h) (subst (λ (v : Chosen). GoesOn y v start b) (sym equal) (subst (λ (from : Start). GoesOn y e from b) (sym begun) k)))
+      (λ a b h k. one a b (rest_same c start a h) (subst (λ (v : List Chosen). GoesOn y v start b) (sym equal) (subst (λ (from : Start). GoesOn y e from b) (sym begun) k)))
 
 -- ---- what is told of a life
 
@@ -138,10 +139,12 @@ reported_same a b same =
     let alike = same.files.program.same in
     let arrivals = same.files.arrivals in
     let chosen = same.chosen in
+    let given = same.files.given in
+    let rows = same.files.forecast in
     let life = same.life in
     λ i. record {
       status = status_of (life i).end;
-      text = report_text (alike.headers i) (alike.variables i) (chosen i) (arrivals i) (past_of (life i).layout (model_start (life i).origin) (life i).state)
+      text = report_text (alike.headers i) (alike.variables i) (given i) (rows i) (chosen i) (arrivals i) (past_of (life i).layout (model_start (life i).origin) (life i).state)
           (life i).state.tick (life i).state.stored (life i).end;
     }
 
@@ -159,12 +162,14 @@ summed_same size a b same =
           (life i).state.stored (life i).end;
     }
 
-pub rest_reported_same : (x y : ReplayFiles) (c e : Chosen) (a b : Life) → AreSameFiles x y → c ≡ e → a ≡ b → rest_reported x c a ≡ rest_reported y e b
+pub rest_reported_same : (x y : ReplayFiles) (c e : List Chosen) (a b : Life) → AreSameFiles x y → c ≡ e → a ≡ b → rest_reported x c a ≡ rest_reported y e b
 rest_reported_same x y c e a b same chosen life =
     let alike = same.program.same in
     let arrivals = same.arrivals in
+    let given = same.given in
+    let rows = same.forecast in
     λ i. record {
       status = status_of (life i).end;
-      text = resumed_text (alike.headers i) (alike.variables i) (chosen i) (arrivals i) (past_since (life i)) (told_before (life i))
+      text = resumed_text (alike.headers i) (alike.variables i) (given i) (rows i) (chosen i) (arrivals i) (past_since (life i)) (told_before (life i))
           (life i).state.tick (life i).state.stored (life i).end;
     }

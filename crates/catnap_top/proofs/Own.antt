@@ -1,7 +1,7 @@
 -- The statuses that words and files call for are none of the four that have causes of their own.
 use Rattle.std.proofs.Common.{◌≡◌, ℕ, List, Result, Ok, Err, true, refl, sym, subst}
 use Rattle.catnap_words.specs.declared.form.Form.{Form}
-use Rattle.catnap_words.specs.declared.form.Form.TheVariants.{Run, List as Listing, Check, Plan, Replay, Image, Resume, Uplink, Object, RunObject, Bench}
+use Rattle.catnap_words.specs.declared.form.Form.TheVariants.{Run, List as Listing, Check, CheckForecast, Plan, Replay, ReplayForecast, Image, Resume, Uplink, Object, RunObject, Bench}
 use Rattle.catnap_top.specs.declared.fault.Fault.{Fault}
 use Rattle.catnap_top.specs.declared.fault.Fault.TheVariants as fault
 use Rattle.catnap_top.specs.declared.fault.Table.TheVariants as table
@@ -25,8 +25,9 @@ fault_own (fault.Table table.Trace row kind) = refl
 fault_own (fault.Table table.Arrivals row kind) = refl
 fault_own (fault.Table table.Fails row kind) = refl
 fault_own (fault.Table table.Link row kind) = refl
-fault_own (fault.Choice (none.Window spacing)) = refl
-fault_own (fault.Choice (none.Rejected verdict)) = refl
+fault_own (fault.Table table.Forecast row kind) = refl
+fault_own (fault.Choice row (none.Window spacing)) = refl
+fault_own (fault.Choice row (none.Rejected verdict)) = refl
 fault_own (fault.Image bad) = refl
 fault_own (fault.Object bad) = refl
 
@@ -43,6 +44,7 @@ looks_own (Run steps) files = then_finds IsOwn _ _ (λ p. found_finds IsOwn _ re
 looks_own Listing files = then_finds IsOwn _ _ (λ p. found_finds IsOwn _ refl)
 looks_own Object files = then_finds IsOwn _ _ (λ p. found_finds IsOwn _ refl)
 looks_own Replay files = then_finds IsOwn _ _ (λ files. then_finds IsOwn _ _ (λ lived. found_finds IsOwn _ (end_own lived.life.end)))
+looks_own ReplayForecast files = then_finds IsOwn _ _ (λ files. then_finds IsOwn _ _ (λ lived. found_finds IsOwn _ (end_own lived.life.end)))
 looks_own Image files = then_finds IsOwn _ _ (λ files. then_finds IsOwn _ _ (λ lived. found_finds IsOwn _ (end_own lived.life.end)))
 looks_own Resume files =
     then_finds IsOwn _ _ (λ told. then_finds IsOwn _ _ (λ chosen. then_finds IsOwn _ _ (λ start. then_finds IsOwn _ _ (λ life. found_finds IsOwn _ (end_own life.end)))))
@@ -51,6 +53,8 @@ looks_own (Bench size) files = then_finds IsOwn _ _ (λ made. then_finds IsOwn _
 looks_own Uplink files =
     then_finds IsOwn _ _ (λ told. then_finds IsOwn _ _ (λ steps. then_finds IsOwn _ _ (λ lived. then_finds IsOwn _ _ (λ text. found_finds IsOwn _ (end_own lived.life.end)))))
 looks_own Check files = then_finds IsOwn _ _ (λ p. then_finds IsOwn _ _ (λ d. then_finds IsOwn _ _ (λ c. found_finds IsOwn _ refl)))
+looks_own CheckForecast files =
+    then_finds IsOwn _ _ (λ p. then_finds IsOwn _ _ (λ d. then_finds IsOwn _ _ (λ rows. then_finds IsOwn _ _ (λ c. found_finds IsOwn _ refl))))
 looks_own Plan files = then_finds IsOwn _ _ (λ p. then_finds IsOwn _ _ (λ d. then_finds IsOwn _ _ (λ plan. found_finds IsOwn _ refl)))
 
 pub form_own : (form : Form) (files : List (List ℕ)) (due : Answer) → CallsFor form files due → IsOwn due

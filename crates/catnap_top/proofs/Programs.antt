@@ -1,6 +1,6 @@
 -- What programs of one source answer.
 use Rattle.std.proofs.Common.{◌≡◌, ℕ, zero, suc, ◌++◌, List, ◌∷◌, length, Option, refl, ap, ◌∙◌}
-use Rattle.std.specs.Prelude.{slice_get, slice_index, slice_index_or}
+use Rattle.std.specs.Prelude.{Bool, slice_get, slice_index, slice_index_or}
 use Rattle.cat_program.specs.declared.headers.Event.{Event}
 use Rattle.cat_program.specs.declared.syntax.Stepped.{Stepped}
 use Rattle.cat_program.specs.Checked.{Checked, body_at, first_state}
@@ -9,8 +9,9 @@ use Rattle.cat_machine.specs.Code.{code_of}
 use Rattle.cat_compile.specs.Listing.{listing_text}
 use Rattle.degradation.specs.declared.chosen.Chosen.{Chosen}
 use Rattle.feasibility.specs.Chosen.{no_load}
+use Rattle.forecast_table.specs.declared.epoch.Epoch.{Epoch}
 use Rattle.cn_base.specs.Texts.{in_turn}
-use Rattle.cn_report.specs.Report.{version_line, name_of, event_line, numbers_line, chosen_text}
+use Rattle.cn_report.specs.Report.{version_line, name_of, event_line, numbers_line, chosen_text, rows_text}
 use Rattle.same_program.specs.Same.{IsSame}
 use Rattle.same_program.specs.Alike.{StateIsLike, StepIsLike, no_step, step}
 use Rattle.catnap_top.specs.declared.status.Status.TheVariants.{Done}
@@ -56,5 +57,6 @@ text_same p q c same =
     ap (λ (hs : List Event). in_turn (λ e. version_line (name_of (slice_get hs e)) (slice_index c.versions e) (slice_index_or c.loads e no_load)) (length p.events) ++ numbers_line c.numbers) same.headers
     ∙ ap (λ (l : List (List ℕ)). in_turn (event_line q c) (length l) ++ numbers_line c.numbers) same.events
 
-pub checked_same : (p q : Checked) (c d : Chosen) → IsSame p q → c ≡ d → checked p c ≡ checked q d
-checked_same p q c d same e = ap (checked p) e ∙ ap (λ text. record { status = Done; text = text }) (text_same p q d same)
+pub checked_same : (p q : Checked) (given : Bool) (rows : List Epoch) (c d : List Chosen) → IsSame p q → c ≡ d → checked p given rows c ≡ checked q given rows d
+checked_same p q given rows c d same e =
+    ap (checked p given rows) e ∙ ap (λ (hs : List Event). record { status = Done; text = rows_text hs given rows d }) same.headers

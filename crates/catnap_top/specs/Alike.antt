@@ -29,6 +29,8 @@ pub record AreSameFiles (x y : ReplayFiles) : Type 0 where
   pub trace : x.trace ≡ y.trace
   pub arrivals : x.arrivals ≡ y.arrivals
   pub failures : x.failures ≡ y.failures
+  pub given : x.given ≡ y.given
+  pub forecast : x.forecast ≡ y.forecast
 
 -- lives of files that tell the same
 pub record AreSameLived (a b : Lived) : Type 0 where

@@ -1,5 +1,5 @@
 -- `bench N`: how many lines of each kind a report has, and how it ends, where the program makes the files of the replay itself.
-use Rattle.std.specs.Prelude.{ℕ, List, [], ◌∷◌, ◌++◌, codes, decimal}
+use Rattle.std.specs.Prelude.{ℕ, List, None, [], ◌∷◌, ◌++◌, codes, decimal}
 use Rattle.bench_input.specs.Input.{source_text, profile_text, trace_text, arrivals_text, failures_text}
 use Rattle.board_core.specs.Reached.{model_start}
 use Rattle.cn_base.specs.Texts.{line}
@@ -47,6 +47,6 @@ summed size lived =
 -- `bench` of a size, over the texts of that size
 abbrev pub benching : ℕ → Look Answer
 benching size = do
-  files ← files_in source_text profile_text (trace_text size) (arrivals_text size) (failures_text size)
+  files ← files_in source_text profile_text (trace_text size) (arrivals_text size) (failures_text size) None
   lived ← living files
   found (summed size lived)

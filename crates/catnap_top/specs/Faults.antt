@@ -1,5 +1,5 @@
 -- What is refused once all files are read, and the answer of each fault: one line, and the status of the kind.
-use Rattle.std.specs.Prelude.{ℕ, List, [], ◌∷◌, codes, decimal}
+use Rattle.std.specs.Prelude.{ℕ, List, [], ◌∷◌, Option, codes, decimal}
 use Rattle.cn_report.specs.Report.{window_line, rejected_line}
 use Rattle.cn_tables.specs.declared.fault.RowKind.{RowKind}
 use Rattle.cn_tables.specs.declared.fault.RowKind.TheVariants as row
@@ -13,7 +13,7 @@ use Rattle.catnap_top.specs.declared.fault.Table.TheVariants as table
 use Rattle.catnap_top.specs.declared.fault.Fault.{Fault}
 use Rattle.catnap_top.specs.declared.fault.Fault.TheVariants as fault
 use Rattle.catnap_top.specs.declared.status.Status.{Status}
-use Rattle.catnap_top.specs.declared.status.Status.TheVariants.{BadDevice, BadTrace, BadArrivals, BadFails, BadImage, BadObject, BadLink, WindowTooLong, Rejected}
+use Rattle.catnap_top.specs.declared.status.Status.TheVariants.{BadDevice, BadTrace, BadArrivals, BadFails, BadImage, BadObject, BadLink, BadForecast, WindowTooLong, Rejected}
 use Rattle.catnap_top.specs.Answer.{Answer, line}
 use Rattle.catnap_top.specs.FileFaults.{image_line, object_line}
 use Rattle.catnap_top.specs.Refusals.{refused}
@@ -34,12 +34,14 @@ table_name table.Trace = codes "trace"
 table_name table.Arrivals = codes "arrivals"
 table_name table.Fails = codes "fails"
 table_name table.Link = codes "link"
+table_name table.Forecast = codes "forecast"
 
 abbrev pub table_status : Table → Status
 table_status table.Trace = BadTrace
 table_status table.Arrivals = BadArrivals
 table_status table.Fails = BadFails
 table_status table.Link = BadLink
+table_status table.Forecast = BadForecast
 
 abbrev pub row_kind_name : RowKind → List ℕ
 row_kind_name row.Long = codes "Long"
@@ -61,14 +63,19 @@ table_line which number kind =
 
 -- ---- every fault
 
-abbrev pub no_choice_answer : NoChoice → Answer
-no_choice_answer (none.Window spacing) = record { status = WindowTooLong; text = window_line spacing }
-no_choice_answer (none.Rejected verdict) = record { status = Rejected; text = rejected_line verdict }
+-- why there is no choice, and for which row of the forecast, where a file gave it
+abbrev pub no_choice_line : Option ℕ → NoChoice → List ℕ
+no_choice_line row (none.Window spacing) = window_line row spacing
+no_choice_line row (none.Rejected verdict) = rejected_line row verdict
+
+abbrev pub no_choice_status : NoChoice → Status
+no_choice_status (none.Window spacing) = WindowTooLong
+no_choice_status (none.Rejected verdict) = Rejected
 
 abbrev pub fault_answer : Fault → Answer
 fault_answer (fault.Source kind) = refused kind
 fault_answer (fault.Device kind) = record { status = BadDevice; text = profile_line kind }
 fault_answer (fault.Table which number kind) = record { status = table_status which; text = table_line which number kind }
-fault_answer (fault.Choice why) = no_choice_answer why
+fault_answer (fault.Choice row why) = record { status = no_choice_status why; text = no_choice_line row why }
 fault_answer (fault.Image bad) = record { status = BadImage; text = image_line bad.kind bad.at }
 fault_answer (fault.Object bad) = record { status = BadObject; text = object_line bad.kind bad.place }

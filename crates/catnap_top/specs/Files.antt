@@ -1,11 +1,14 @@
 -- What each kind of file is looked at for, and the files of a replay.
-use Rattle.std.specs.Prelude.{◌≡◌, ℕ, List, Result, Ok, Err}
+use Rattle.std.specs.Prelude.{◌≡◌, ℕ, Bool, true, false, List, Option, Some, None, Result, Ok, Err}
 use Rattle.cat_program.specs.Checked.{Checked}
 use Rattle.cn_tables.specs.Table.{Bad}
 use Rattle.device_profile.specs.Answer.{IsAnswer}
 use Rattle.device_profile.specs.declared.fault.DeviceFault.{DeviceFault}
 use Rattle.device_profile.specs.declared.fault.DeviceFault.TheVariants as device
 use Rattle.event_arrivals.specs.Arrivals.{Lists, arrivals_of}
+use Rattle.cn_runtime.specs.Steady.{steady_rows}
+use Rattle.forecast_table.specs.Table.{forecast_of}
+use Rattle.forecast_table.specs.declared.epoch.Epoch.{Epoch}
 use Rattle.harvest_trace.specs.FailsTable.{fails_of}
 use Rattle.harvest_trace.specs.TraceTable.{trace_of}
 use Rattle.harvest_trace.specs.declared.failures.Failure.{Failure}
@@ -71,14 +74,30 @@ arrivals_in p trace bytes = table_in table.Arrivals (arrivals_of p.headers trace
 abbrev pub failures_in : List ℕ → Look (List Failure)
 failures_in bytes = table_in table.Fails (fails_of bytes)
 
+abbrev pub forecast_in : List ℕ → Look (List Epoch)
+forecast_in bytes = table_in table.Forecast (forecast_of bytes)
+
 -- ---- the files of a replay
 
+-- what is sure to be harvested, and whether a file says so
+pub record Foreseen : Type 0 where
+  pub given : Bool
+  pub rows : List Epoch
+
+-- what a device's profile says of it, or what a forecast's file says
+abbrev pub foreseen_in : Device → Option (List ℕ) → Look Foreseen
+foreseen_in d None = found (record { given = false; rows = steady_rows d })
+foreseen_in d (Some forecast) = do
+  rows ← forecast_in forecast
+  found (record { given = true; rows = rows })
+
 -- the files of a replay, in the order in which they are looked at
-abbrev pub files_in : List ℕ → List ℕ → List ℕ → List ℕ → List ℕ → Look ReplayFiles
-files_in source profile trace arrivals failures = do
+abbrev pub files_in : List ℕ → List ℕ → List ℕ → List ℕ → List ℕ → Option (List ℕ) → Look ReplayFiles
+files_in source profile trace arrivals failures forecast = do
   p ← program_in source
   d ← device_in profile
   t ← trace_in trace
   a ← arrivals_in p t arrivals
   f ← failures_in failures
-  found (record { program = p; device = d; trace = t; arrivals = a; failures = f })
+  w ← foreseen_in d forecast
+  found (record { program = p; device = d; trace = t; arrivals = a; failures = f; given = w.given; forecast = w.rows })

@@ -34,9 +34,9 @@ start_point origin work = record { board = first_state origin; work = work; dirt
 
 -- From a board as it begins, and a working value, a lawful timeline leads to the board's last state, by the rules of the trace, the
 -- failures and the device.
-pub record Goes (files : ReplayFiles) (chosen : Chosen) (begun : Layout → Work) (life : Life) : Type 0 where
+pub record Goes (files : ReplayFiles) (chosen : List Chosen) (begun : Layout → Work) (life : Life) : Type 0 where
   pub plan : Plan
-  pub is_plan : IsPlanFor files.program files.device files.arrivals chosen plan
+  pub is_plan : IsPlanFor files.program files.device files.arrivals files.forecast chosen plan
   pub layout_is : life.layout ≡ plan.layout
   pub trace_is : life.origin.trace ≡ files.trace
   pub fails_are : life.origin.fails ≡ files.failures
@@ -48,16 +48,16 @@ pub record Goes (files : ReplayFiles) (chosen : Chosen) (begun : Layout → Work
   pub reached : IsReached life.origin life.state
 
 -- The board begins at tick 0 with the device's first units and the program's first image, and the program in its first state.
-pub record Lives (files : ReplayFiles) (chosen : Chosen) (life : Life) : Type 0 where
+pub record Lives (files : ReplayFiles) (chosen : List Chosen) (life : Life) : Type 0 where
   pub goes : Goes files chosen (first_work files.program) life
   pub at_first : life.origin.tick ≡ 0
   pub stored_is : life.origin.stored ≡ files.device.start
   pub fresh : IsFresh files.program goes.plan.layout life.origin.image
 
--- files, the versions that are chosen for their program, and the life that follows
+-- files, the versions that are chosen for their program, for each row of the forecast, and the life that follows
 pub record Lived : Type 0 where
   pub files : ReplayFiles
-  pub chosen : Chosen
+  pub chosen : List Chosen
   pub life : Life
 
 abbrev pub status_of : End → Status
@@ -65,10 +65,10 @@ status_of TraceEnded = Done
 status_of LogFull = Full
 
 -- the report of a life
-abbrev pub reported : ReplayFiles → Chosen → Life → Answer
+abbrev pub reported : ReplayFiles → List Chosen → Life → Answer
 reported files chosen life =
     record {
       status = status_of life.end;
-      text = report_text files.program.headers files.program.variables chosen files.arrivals (past_of life.layout (model_start life.origin) life.state)
+      text = report_text files.program.headers files.program.variables files.given files.forecast chosen files.arrivals (past_of life.layout (model_start life.origin) life.state)
           life.state.tick life.state.stored life.end;
     }

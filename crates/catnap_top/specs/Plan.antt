@@ -1,5 +1,5 @@
 -- `plan SRC DEVICE`: the least harvest with which a device serves a source's events, none of them degraded.
-use Rattle.std.specs.Prelude.{ℕ, List, Result, MatchResult}
+use Rattle.std.specs.Prelude.{ℕ, List, None, Result, MatchResult}
 use Rattle.cat_program.specs.Checked.{Checked}
 use Rattle.cost_bounds.specs.BoundsValue.{BoundsValue}
 use Rattle.cost_bounds.specs.Greatest.{AreBounds}
@@ -28,7 +28,7 @@ planned p plan = record { status = Done; text = plan_text p plan }
 
 -- with this spacing the window is too long, as for a choice of versions
 abbrev pub window_fault : ℕ → Fault
-window_fault spacing = fault.Choice (none.Window spacing)
+window_fault spacing = fault.Choice None (none.Window spacing)
 
 abbrev pub stop_of_plan : LeastFault → Stop
 stop_of_plan (least.WindowTooLong spacing) = stop.Refused (window_fault spacing)

@@ -1,5 +1,5 @@
 -- A replay that has ended, and the life and the report for which it stands.
-use Rattle.std.specs.Prelude.{◌≡◌, List, length}
+use Rattle.std.specs.Prelude.{◌≡◌, Bool, List, length, All}
 use Rattle.harvest_trace.specs.declared.failures.Failure.{Failure}
 use Rattle.harvest_trace.specs.declared.row.TraceRow.{TraceRow}
 use Rattle.nv_memory.specs.declared.device.Device.{Device}
@@ -28,6 +28,8 @@ lived_of r =
         trace = (origin_of r.board).trace;
         arrivals = r.prepared.plan.queue.arrivals;
         failures = (origin_of r.board).fails;
+        given = r.given;
+        forecast = r.prepared.forecast;
       };
       chosen = r.prepared.chosen;
       life = record { layout = r.prepared.plan.layout; origin = origin_of r.board; state = state_of r.board; end = r.end };
@@ -38,7 +40,8 @@ replayed_answer r = reported (lived_of r).files (lived_of r).chosen (lived_of r)
 
 -- its report can be written
 pub record IsReadyToTell (r : Replayed) : Type 0 where
-  pub suits : Suits r.prepared.program r.prepared.chosen
+  pub count : length r.prepared.chosen ≡ length r.prepared.forecast
+  pub suits : All (Suits r.prepared.program) r.prepared.chosen
   pub events : length r.prepared.plan.queue.arrivals.timings ≡ length r.prepared.program.events
   pub fresh : IsFresh r.prepared.program r.prepared.plan.layout (origin_of r.board).image
   pub replayed : IsReplayed r.prepared.program (past_of r.prepared.plan.layout (model_start (origin_of r.board)) (state_of r.board))
@@ -55,8 +58,9 @@ pub record HasBegun (prepared : Prepared) (trace : List TraceRow) (failures : Li
   pub state_is : state_of board ≡ first_state (origin_of board)
 
 -- a replay of what was prepared, on such a board, has ended
-pub record HasEnded (prepared : Prepared) (trace : List TraceRow) (failures : List Failure) (device : Device) (r : Replayed) : Type 0 where
+pub record HasEnded (prepared : Prepared) (given : Bool) (trace : List TraceRow) (failures : List Failure) (device : Device) (r : Replayed) : Type 0 where
   pub first : ModelBoard
+  pub given_is : r.given ≡ given
   pub begun : HasBegun prepared trace failures device first
   pub same : origin_of r.board ≡ origin_of first
   pub others : r.prepared ≡ record prepared { engine = r.prepared.engine }

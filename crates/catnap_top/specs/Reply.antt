@@ -1,7 +1,7 @@
 -- What the words and the files call for. Each command adds a case to both definitions.
-use Rattle.std.specs.Prelude.{ℕ, List, [], get_or}
+use Rattle.std.specs.Prelude.{ℕ, List, [], Some, None, get_or}
 use Rattle.catnap_words.specs.declared.form.Form.{Form}
-use Rattle.catnap_words.specs.declared.form.Form.TheVariants.{Run, List as Listing, Check, Plan, Replay, Image, Resume, Uplink, Object, RunObject, Bench}
+use Rattle.catnap_words.specs.declared.form.Form.TheVariants.{Run, List as Listing, Check, CheckForecast, Plan, Replay, ReplayForecast, Image, Resume, Uplink, Object, RunObject, Bench}
 use Rattle.catnap_top.specs.declared.reply.Reply.{Reply}
 use Rattle.catnap_top.specs.declared.reply.Reply.TheVariants as reply
 use Rattle.catnap_top.specs.Answer.{Answer, usage, read_fault}
@@ -13,7 +13,8 @@ use Rattle.catnap_top.specs.Listed.{listing, listed}
 use Rattle.catnap_top.specs.Object.{compiling, filed}
 use Rattle.catnap_top.specs.RunObject.{running_object}
 use Rattle.catnap_top.specs.Loaded.{CanRun, loaded_answer}
-use Rattle.catnap_top.specs.Check.{checking, checked}
+use Rattle.catnap_top.specs.Check.{checking, checking_rows, checked}
+use Rattle.catnap_top.specs.SelectedValue.{SelectedValue}
 use Rattle.catnap_top.specs.Plan.{planning, planned}
 use Rattle.catnap_top.specs.Replay.{replaying}
 use Rattle.catnap_top.specs.Replayed.{lived_of, replayed_answer, IsReadyToTell}
@@ -30,8 +31,11 @@ looks_of (Run steps) files = running steps (get_or files 0 [])
 looks_of Listing files = listing (get_or files 0 [])
 looks_of Object files = compiling (get_or files 0 [])
 looks_of Check files = checking (get_or files 0 []) (get_or files 1 [])
+looks_of CheckForecast files = checking_rows (get_or files 0 []) (get_or files 1 []) (get_or files 2 [])
 looks_of Plan files = planning (get_or files 0 []) (get_or files 1 [])
-looks_of Replay files = replaying (get_or files 0 []) (get_or files 1 []) (get_or files 2 []) (get_or files 3 []) (get_or files 4 [])
+looks_of Replay files = replaying (get_or files 0 []) (get_or files 1 []) (get_or files 2 []) (get_or files 3 []) (get_or files 4 []) None
+looks_of ReplayForecast files =
+    replaying (get_or files 0 []) (get_or files 1 []) (get_or files 2 []) (get_or files 3 []) (get_or files 4 []) (Some (get_or files 5 []))
 looks_of Image files = saving (get_or files 0 []) (get_or files 1 []) (get_or files 2 []) (get_or files 3 []) (get_or files 4 [])
 looks_of Resume files =
     resuming (get_or files 0 []) (get_or files 1 []) (get_or files 2 []) (get_or files 3 []) (get_or files 4 []) (get_or files 5 [])
@@ -44,6 +48,9 @@ looks_of Uplink files =
 abbrev pub CallsFor : Form → List (List ℕ) → Answer → Type 0
 CallsFor form files due = ComesTo (looks_of form files) due
 
+abbrev pub selected_answer : SelectedValue → Answer
+selected_answer selected = checked selected.program selected.given selected.rows selected.chosen
+
 -- the answer that a value of the code stands for
 abbrev pub reply_answer : Reply → Answer
 reply_answer reply.Usage = usage
@@ -52,7 +59,7 @@ reply_answer (reply.Refused why) = fault_answer why
 reply_answer (reply.Run ready) = ready_answer ready
 reply_answer (reply.List compiled) = listed compiled.program
 reply_answer (reply.Object file) = filed file.items
-reply_answer (reply.Check selected) = checked selected.program selected.chosen
+reply_answer (reply.Check selected) = selected_answer selected
 reply_answer (reply.Plan given) = planned given.program given.plan
 reply_answer (reply.Replay replayed) = replayed_answer replayed
 reply_answer (reply.Image replayed) = saved (lived_of replayed)

@@ -1,5 +1,5 @@
 -- A replay that went on from a saved image and has ended, and the life and the report for which it stands.
-use Rattle.std.specs.Prelude.{◌≡◌, ◌≤◌, List, length}
+use Rattle.std.specs.Prelude.{◌≡◌, ◌≤◌, false, List, length, All}
 use Rattle.board_core.specs.Reached.{IsReached, first_state}
 use Rattle.board_core.specs.ModelBoardState.{origin_of, state_of}
 use Rattle.checkpoint_slots.specs.Image.{committed_slot}
@@ -27,7 +27,8 @@ resumed_answer r = rest_reported (lived_of r.replayed).files (lived_of r.replaye
 
 -- its report can be written
 pub record CanTellRest (r : Resumed) : Type 0 where
-  pub suits : Suits r.replayed.prepared.program r.replayed.prepared.chosen
+  pub count : length r.replayed.prepared.chosen ≡ length r.replayed.prepared.forecast
+  pub suits : All (Suits r.replayed.prepared.program) r.replayed.prepared.chosen
   pub events : length r.replayed.prepared.plan.queue.arrivals.timings ≡ length r.replayed.prepared.program.events
   pub words : r.replayed.prepared.plan.layout.words ≡ length r.replayed.prepared.program.words
   pub large : size_of r.replayed.prepared.plan.layout ≤ length (origin_of r.replayed.board).image
@@ -36,10 +37,10 @@ pub record CanTellRest (r : Resumed) : Type 0 where
   pub kept : HasKept r.replayed.prepared.plan.layout (origin_of r.replayed.board).image r.replayed.shadow
   pub made : IsMadeFor r.replayed.prepared.plan.layout r.replayed.shadow.slot
 
--- the files of what was prepared, with a trace and its failures
+-- the files of what was prepared by the profile alone, with a trace and its failures
 abbrev pub files_with : Prepared → List TraceRow → List Failure → ReplayFiles
 files_with prepared trace failures =
-    record { program = prepared.program; device = prepared.device; trace = trace; arrivals = prepared.plan.queue.arrivals; failures = failures }
+    record { program = prepared.program; device = prepared.device; trace = trace; arrivals = prepared.plan.queue.arrivals; failures = failures; given = false; forecast = prepared.forecast }
 
 -- what was read of a saved image
 abbrev pub start_of : Saved → Start
@@ -61,6 +62,7 @@ pub record BeginsAgain (prepared : Prepared) (trace : List TraceRow) (failures :
 -- the replay on such a board has ended
 pub record HasGoneOn (prepared : Prepared) (b : BegunAgain) (r : Resumed) : Type 0 where
   pub from_is : r.from ≡ b.from
+  pub given_is : r.replayed.given ≡ false
   pub same : origin_of r.replayed.board ≡ origin_of b.board
   pub others : r.replayed.prepared ≡ record prepared { engine = r.replayed.prepared.engine }
   pub replayed : Ran prepared.program prepared.plan (saved_point prepared.plan.layout (state_of b.board)) r.replayed.end (state_of r.replayed.board)

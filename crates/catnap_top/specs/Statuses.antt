@@ -18,5 +18,6 @@ number_of_status status.Rejected = 11
 number_of_status status.LogFull = 12
 number_of_status status.NoMemory = 13
 number_of_status status.BadImage = 14
+number_of_status status.BadForecast = 15
 number_of_status status.BadObject = 16
 number_of_status status.BadLink = 17

@@ -1,5 +1,5 @@
 -- `uplink SRC DEVICE TRACE ARRIVALS FAILS LINK`: the committed log of a replay over a link that loses, repeats and reorders.
-use Rattle.std.specs.Prelude.{ℕ, List}
+use Rattle.std.specs.Prelude.{ℕ, List, None}
 use Rattle.board_core.specs.Reached.{model_start}
 use Rattle.cat_program.specs.declared.outs.LogEntry.{LogEntry}
 use Rattle.cn_uplink.specs.Log.{log_of}
@@ -37,6 +37,6 @@ sending files steps = do
 -- the files of a replay in their order, the link, and then the rest
 abbrev pub uplinking : List ℕ → List ℕ → List ℕ → List ℕ → List ℕ → List ℕ → Look Answer
 uplinking source profile trace arrivals failures link = do
-  files ← files_in source profile trace arrivals failures
+  files ← files_in source profile trace arrivals failures None
   steps ← links_in link
   sending files steps

@@ -1,6 +1,6 @@
 //! `bench N`: the summary of a replay whose files the program makes itself.
 
-ghost use Rattle.std.specs.Prelude.{◌≡◌, length, IfOk};
+ghost use Rattle.std.specs.Prelude.{◌≡◌, length, None, IfOk};
 ghost use Rattle.cn_base.specs.Causes.{HasCause};
 ghost use Rattle.cn_base.specs.Writing.{Writes};
 ghost use Rattle.cn_report.specs.Outcome.{end_word};
@@ -77,6 +77,7 @@ pub fn write_bench<K: Sink>(sink: &mut K, size: u32, replayed: Replayed) -> Resu
 {
     let Replayed {
         prepared,
+        given: _,
         board,
         end,
         mut shadow,
@@ -93,7 +94,7 @@ pub fn write_bench<K: Sink>(sink: &mut K, size: u32, replayed: Replayed) -> Resu
 
 /// Looks at the files of a size.
 fn bench_files(alloc: Global, size: u32) -> Result<ReplayFiles, Stop>
-    ensures looks { Looks (files_in source_text profile_text (trace_text size) (arrivals_text size) (failures_text size)) result }
+    ensures looks { Looks (files_in source_text profile_text (trace_text size) (arrivals_text size) (failures_text size) None) result }
     ensures events { IfOk result (λ files. length files.arrivals.timings ≡ length files.program.events) }
 {
     let trace = trace(alloc, size)?;
@@ -106,6 +107,7 @@ fn bench_files(alloc: Global, size: u32) -> Result<ReplayFiles, Stop>
         trace.as_slice(),
         arrivals.as_slice(),
         failures.as_slice(),
+        None,
     )
 }
 

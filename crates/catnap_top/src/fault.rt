@@ -3,7 +3,7 @@
 ghost use Rattle.std.specs.Prelude.{◌≡◌, ◌∷◌, [], codes};
 ghost use Rattle.cn_base.specs.Causes.{HasCause};
 ghost use Rattle.cn_base.specs.Writing.{Writes};
-ghost use Rattle.catnap_top.specs.Faults.{fault_answer, no_choice_answer, profile_line, row_kind_name, table_line, table_name, table_status};
+ghost use Rattle.catnap_top.specs.Faults.{fault_answer, no_choice_line, no_choice_status, profile_line, row_kind_name, table_line, table_name, table_status};
 ghost use Rattle.catnap_top.specs.Answer.{line};
 ghost use Rattle.device_profile.specs.Keys.{text_of};
 
@@ -38,6 +38,7 @@ pub enum Table {
     Arrivals,
     Fails,
     Link,
+    Forecast,
 }
 
 /// Why no versions are chosen.
@@ -57,7 +58,8 @@ pub enum Fault {
     Device(ProfileFault),
     /// The first row with a fault, the header being row 0, and what is wrong with it.
     Table(Table, u32, RowKind),
-    Choice(NoChoice),
+    /// The first row of the forecast without a choice, counted from 1, where a file gave the forecast, and why it has none.
+    Choice(Option<u32>, NoChoice),
     Image(BadImage),
     Object(BadObject),
 }
@@ -100,6 +102,7 @@ impl Table {
             Table::Arrivals => "arrivals",
             Table::Fails => "fails",
             Table::Link => "link",
+            Table::Forecast => "forecast",
         }
     }
 
@@ -111,6 +114,7 @@ impl Table {
             Table::Arrivals => Status::BadArrivals,
             Table::Fails => Status::BadFails,
             Table::Link => Status::BadLink,
+            Table::Forecast => Status::BadForecast,
         }
     }
 }
@@ -158,7 +162,7 @@ fn put_row_fault<K: Sink>(
 
 impl NoChoice {
     fn status(self) -> Status
-        ensures { result ≡ (no_choice_answer self).status }
+        ensures { result ≡ no_choice_status self }
     {
         match self {
             NoChoice::Window(_) => Status::WindowTooLong,
@@ -166,13 +170,13 @@ impl NoChoice {
         }
     }
 
-    fn write<K: Sink>(self, sink: &mut K) -> Result<(), WriteFail>
-        ensures text { Writes (K.written sink.old) (K.written sink.new) (no_choice_answer self).text result }
+    fn write<K: Sink>(self, row: Option<u32>, sink: &mut K) -> Result<(), WriteFail>
+        ensures text { Writes (K.written sink.old) (K.written sink.new) (no_choice_line row self) result }
         ensures cause { HasCause (K.faults sink.old) (K.faults sink.new) result }
     {
         match self {
-            NoChoice::Window(spacing) => write_window_fault(spacing, sink),
-            NoChoice::Rejected(verdict) => write_rejected(verdict, sink),
+            NoChoice::Window(spacing) => write_window_fault(row, spacing, sink),
+            NoChoice::Rejected(verdict) => write_rejected(row, verdict, sink),
         }
     }
 }
@@ -185,7 +189,7 @@ impl Fault {
             Fault::Source(_) => Status::BadSource,
             Fault::Device(_) => Status::BadDevice,
             Fault::Table(table, _, _) => table.status(),
-            Fault::Choice(why) => why.status(),
+            Fault::Choice(_, why) => why.status(),
             Fault::Image(_) => Status::BadImage,
             Fault::Object(_) => Status::BadObject,
         }
@@ -200,7 +204,7 @@ impl Fault {
             Fault::Source(kind) => kind.write(sink),
             Fault::Device(fault) => put_profile_fault(sink, fault),
             Fault::Table(table, row, kind) => put_row_fault(sink, table, row, kind),
-            Fault::Choice(why) => why.write(sink),
+            Fault::Choice(row, why) => why.write(row, sink),
             Fault::Image(bad) => put_image_fault(sink, bad.kind, bad.at),
             Fault::Object(bad) => put_object_fault(sink, bad.kind, bad.place),
         }

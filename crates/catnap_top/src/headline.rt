@@ -3,9 +3,10 @@
 ghost use Rattle.catnap_top.specs.Headline.{ReplaysShowRuns, ResumesShowRuns};
 
 use cat_resolve::checked_law;
-use cn_runtime::{plans_are_planned, plans_are_set_up};
+use cn_runtime::{plans_are_planned, plans_are_set_up, steady_law};
 use degradation::choices_suit;
 use event_arrivals::{arrivals_are_counted, told_arrivals_are_sound};
+use forecast_table::told_forecasts_are_sound;
 use image_meaning::images_stand_for_one;
 use lawful_timeline::{lawful_timelines_hold, starts_belong};
 use logged_runs::{agrees_with_one, own_runs_handle_arrivals};
@@ -24,6 +25,8 @@ pub fn replays_show_runs()
     choices_suit();
     plans_are_set_up();
     plans_are_planned();
+    steady_law();
+    told_forecasts_are_sound();
     agrees_with_one();
     images_stand_for_one();
     fresh_runs_are_on_time();
@@ -43,6 +46,8 @@ pub fn resumes_show_runs()
     choices_suit();
     plans_are_set_up();
     plans_are_planned();
+    steady_law();
+    told_forecasts_are_sound();
     agrees_with_one();
     images_stand_for_one();
     resumed_runs_are_on_time();

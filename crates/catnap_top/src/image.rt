@@ -36,7 +36,7 @@ pub fn prepare_image(
     ensures looks { LooksAs reply_answer (saving source.now profile.now trace.now arrivals.now failures.now) result }
     ensures written { IfOk result CanBeWritten }
 {
-    let files = replay_files(alloc, source, profile, trace, arrivals, failures)?;
+    let files = replay_files(alloc, source, profile, trace, arrivals, failures, None)?;
     match live(alloc, files) {
         Ok(replayed) => Ok(Reply::Image(replayed)),
         Err(stop) => Err(stop),

@@ -7,6 +7,7 @@ mod compiled;
 mod fault;
 mod file_fault;
 mod files;
+mod forecast;
 mod headline;
 mod image;
 mod line;
@@ -31,8 +32,6 @@ mod source;
 mod status;
 mod stop;
 mod tables;
-#[cfg(test)]
-mod tests;
 mod top;
 mod uplink;
 mod versions;

@@ -16,7 +16,7 @@ ghost use Rattle.catnap_top.specs.Answer.{Answer};
 ghost use Rattle.catnap_top.specs.Files.{IsSource, IsProfile};
 ghost use Rattle.catnap_top.specs.Plan.{Plans};
 ghost use Rattle.catnap_top.specs.Served.{Serves};
-ghost use Rattle.degradation.specs.declared.supply.Supply.{Supply};
+ghost use Rattle.forecast_table.specs.declared.epoch.Epoch.{Epoch as Row};
 ghost use Rattle.catnap_top.specs.Reply.{CallsFor};
 
 use board_core::rules_decide;
@@ -27,17 +27,19 @@ use cat_tokens::one_lexing;
 use cn_object::{one_object_law, one_verdict_law};
 use cn_plan::one_plan_law;
 use cn_resume::one_verdict;
-use cn_runtime::{plans_are_planned, plans_are_set_up};
+use cn_runtime::{plans_are_planned, plans_are_set_up, steady_law};
 use cn_uplink::one_uplink_text;
 use degradation::choices_suit;
 use device_profile::one_device_law;
 use event_arrivals::told_arrivals_are_sound;
+use forecast_choice::one_rows_law;
+use forecast_table::told_forecasts_are_sound;
 use lawful_timeline::starts_belong;
 use nv_memory::layouts_are_numbers;
 use one_timeline::timelines_end_alike;
 use recovery::first_image_is_one;
 use resumed_runs::{fit_images_begin, saved_images_fit};
-use same_program::{one_choice_law, same_code_law, same_program_law, same_steps_law};
+use same_program::{same_code_law, same_program_law, same_steps_law};
 use same_runs::same_images_law;
 
 /// A source stands for programs that say the same, or is refused for one kind at one byte.
@@ -58,11 +60,11 @@ fn one_profile()
     one_device_law();
 }
 
-/// Programs that say the same are served on a device with a supply by the same versions, or not for one reason.
+/// Programs that say the same are served on a device by the same versions for each row of a forecast, or not for one row and one reason.
 fn one_choice()
-    ensures { (p q : Checked) (d : Device) (supply : Supply) → IsSameProgram p q → Agree (λ x y. x ≡ y) (Serves p d supply) (Serves q d supply) }
+    ensures { (p q : Checked) (d : Device) (rows : List Row) → IsSameProgram p q → Agree (λ x y. x ≡ y) (Serves p d rows) (Serves q d rows) }
 {
-    one_choice_law();
+    one_rows_law();
 }
 
 /// Programs that say the same have one plan on a device, or none for one reason.
@@ -82,7 +84,7 @@ fn one_object()
 
 /// Bytes are a saved image of files that tell the same, with one start, or fail one condition with one number.
 fn one_image()
-    ensures { (x y : TheFiles) (chosen : Choice) (bytes : List ℕ) → AreSameFiles x y → Agree (λ s t. s ≡ t) (IsImage x chosen bytes) (IsImage y chosen bytes) }
+    ensures { (x y : TheFiles) (chosen : List Choice) (bytes : List ℕ) → AreSameFiles x y → Agree (λ s t. s ≡ t) (IsImage x chosen bytes) (IsImage y chosen bytes) }
 {
     layouts_are_numbers();
     one_verdict();
@@ -98,6 +100,8 @@ pub fn lives_are_one()
     choices_suit();
     plans_are_set_up();
     plans_are_planned();
+    steady_law();
+    told_forecasts_are_sound();
     layouts_are_numbers();
     first_image_is_one();
     rules_decide();
@@ -114,6 +118,8 @@ pub fn rests_are_one()
     choices_suit();
     plans_are_set_up();
     plans_are_planned();
+    steady_law();
+    told_forecasts_are_sound();
     layouts_are_numbers();
     first_image_is_one();
     rules_decide();
@@ -149,6 +155,8 @@ pub fn images_are_accepted()
     choices_suit();
     plans_are_set_up();
     plans_are_planned();
+    steady_law();
+    told_forecasts_are_sound();
     layouts_are_numbers();
     saved_images_fit();
 }

@@ -34,7 +34,7 @@ fn stop_for_plan(fault: LeastFault) -> Stop
 {
     match fault {
         LeastFault::WindowTooLong(spacing) => {
-            Stop::Refused(Fault::Choice(NoChoice::Window(spacing)))
+            Stop::Refused(Fault::Choice(None, NoChoice::Window(spacing)))
         }
         LeastFault::NoMemory => Stop::NoMemory,
     }

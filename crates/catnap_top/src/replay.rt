@@ -1,6 +1,6 @@
-//! `replay SRC DEVICE TRACE ARRIVALS FAILS`: the report of a program's life on a device.
+//! `replay SRC DEVICE TRACE ARRIVALS FAILS` and `replay SRC DEVICE TRACE ARRIVALS FAILS FORECAST`: the report of a program's life on a device.
 
-ghost use Rattle.std.specs.Prelude.{◌≡◌, length, IfOk};
+ghost use Rattle.std.specs.Prelude.{◌≡◌, length, option_map, IfOk};
 ghost use Rattle.cn_base.specs.Causes.{HasCause};
 ghost use Rattle.cn_base.specs.Writing.{Writes};
 ghost use Rattle.catnap_top.specs.Look.{LooksAs};
@@ -19,6 +19,7 @@ use crate::fault::{Fault, NoChoice};
 use crate::files::{ReplayFiles, replay_files};
 use crate::reply::Reply;
 use crate::stop::Stop;
+use crate::versions::told_row;
 use board_core::ModelBoard;
 use checkpoint_slots::slots_are_read_again;
 use cn_base::{NoMemory, Sink, WriteFail};
@@ -34,21 +35,25 @@ use std::alloc::Global;
 #[derive(Drop)]
 pub struct Replayed {
     pub prepared: Prepared,
+    /// Whether a file gave the forecast.
+    pub given: bool,
     pub board: ModelBoard,
     pub end: End,
     pub shadow: Shadow,
 }
 
-pub fn stop_for_replay(fault: PrepareFault) -> Stop
-    ensures { result ≡ stop_of_replay fault }
+pub fn stop_for_replay(given: bool, fault: PrepareFault) -> Stop
+    ensures { result ≡ stop_of_replay given fault }
 {
     match fault {
-        PrepareFault::WindowTooLong(spacing) => {
-            Stop::Refused(Fault::Choice(NoChoice::Window(spacing)))
-        }
-        PrepareFault::Rejected(verdict) => {
-            Stop::Refused(Fault::Choice(NoChoice::Rejected(verdict)))
-        }
+        PrepareFault::WindowTooLong { row, spacing } => Stop::Refused(Fault::Choice(
+            told_row(given, row),
+            NoChoice::Window(spacing),
+        )),
+        PrepareFault::Rejected { row, verdict } => Stop::Refused(Fault::Choice(
+            told_row(given, row),
+            NoChoice::Rejected(verdict),
+        )),
         PrepareFault::NoMemory => Stop::NoMemory,
     }
 }
@@ -71,13 +76,16 @@ pub fn write_replay<K: Sink>(sink: &mut K, replayed: Replayed) -> Result<(), Wri
 {
     let Replayed {
         prepared,
+        given,
         board,
         end,
         mut shadow,
     } = replayed;
     write_report(
         &prepared.program,
-        &prepared.chosen,
+        prepared.chosen.as_slice(),
+        &prepared.forecast,
+        given,
         prepared.plan.queue.arrivals(),
         &prepared.plan.layout,
         &board,
@@ -120,6 +128,7 @@ fn begin(
 fn run_out(
     alloc: Global,
     mut prepared: Prepared,
+    given: bool,
     trace: Trace,
     failures: Fails,
     device: Device,
@@ -127,7 +136,7 @@ fn run_out(
     requires set_up { IsSetUp prepared.program prepared.plan }
     requires first { IsFirst prepared.program prepared.plan.layout prepared.engine }
     requires device { prepared.device ≡ device }
-    ensures { IfOk result (HasEnded prepared trace failures device) }
+    ensures { IfOk result (HasEnded prepared given trace failures device) }
 {
     match begin(alloc, &prepared, trace, failures, device) {
         Ok(begun) => {
@@ -136,6 +145,7 @@ fn run_out(
             board.keeps_the_rules();
             Ok(Replayed {
                 prepared,
+                given,
                 board,
                 end,
                 shadow,
@@ -157,30 +167,33 @@ pub fn live(alloc: Global, files: ReplayFiles) -> Result<Replayed, Stop>
         trace,
         arrivals,
         failures,
+        given,
+        forecast,
     } = files;
     let own = device.copy();
-    match prepare(alloc, program, device, arrivals) {
-        Ok(prepared) => match run_out(alloc, prepared, trace, failures, own) {
+    match prepare(alloc, program, device, arrivals, forecast) {
+        Ok(prepared) => match run_out(alloc, prepared, given, trace, failures, own) {
             Ok(replayed) => Ok(replayed),
             Err(_) => Err(Stop::NoMemory),
         },
-        Err(fault) => Err(stop_for_replay(fault)),
+        Err(fault) => Err(stop_for_replay(given, fault)),
     }
 }
 
-/// Prepares the report of a replay. It takes all memory of the command.
-pub fn prepare_replay(
+/// Prepares the report of a replay, by a forecast's file where there is one. It takes all memory of the command.
+pub fn prepare_replay<'a>(
     alloc: Global,
     source: &[u8],
     profile: &[u8],
     trace: &[u8],
     arrivals: &[u8],
     failures: &[u8],
+    forecast: Option<&'a [u8]>,
 ) -> Result<Reply, Stop>
-    ensures looks { LooksAs reply_answer (replaying source.now profile.now trace.now arrivals.now failures.now) result }
+    ensures looks { LooksAs reply_answer (replaying source.now profile.now trace.now arrivals.now failures.now (option_map (λ file. file.now) forecast.entry)) result }
     ensures written { IfOk result CanBeWritten }
 {
-    let files = replay_files(alloc, source, profile, trace, arrivals, failures)?;
+    let files = replay_files(alloc, source, profile, trace, arrivals, failures, forecast)?;
     match live(alloc, files) {
         Ok(replayed) => Ok(Reply::Replay(replayed)),
         Err(stop) => Err(stop),

@@ -7,7 +7,7 @@ ghost use Rattle.catnap_top.specs.Reply.{CallsFor, CanBeWritten, looks_of, reply
 
 use crate::Status;
 use crate::bench::{prepare_bench, write_bench};
-use crate::check::{prepare_check, write_check};
+use crate::check::{prepare_check, prepare_check_rows, write_check};
 use crate::compiled::Compiled;
 use crate::fault::Fault;
 use crate::image::{prepare_image, write_image};
@@ -105,6 +105,12 @@ fn prepare(alloc: Global, form: Form, files: &[Vec<u8>]) -> Result<Reply, Stop>
         Form::List => prepare_list(alloc, files[0].as_slice()),
         Form::Object => prepare_object(alloc, files[0].as_slice()),
         Form::Check => prepare_check(alloc, files[0].as_slice(), files[1].as_slice()),
+        Form::CheckForecast => prepare_check_rows(
+            alloc,
+            files[0].as_slice(),
+            files[1].as_slice(),
+            files[2].as_slice(),
+        ),
         Form::Plan => prepare_plan(alloc, files[0].as_slice(), files[1].as_slice()),
         Form::Replay => prepare_replay(
             alloc,
@@ -113,6 +119,16 @@ fn prepare(alloc: Global, form: Form, files: &[Vec<u8>]) -> Result<Reply, Stop>
             files[2].as_slice(),
             files[3].as_slice(),
             files[4].as_slice(),
+            None,
+        ),
+        Form::ReplayForecast => prepare_replay(
+            alloc,
+            files[0].as_slice(),
+            files[1].as_slice(),
+            files[2].as_slice(),
+            files[3].as_slice(),
+            files[4].as_slice(),
+            Some(files[5].as_slice()),
         ),
         Form::Image => prepare_image(
             alloc,

@@ -1,6 +1,6 @@
 //! `resume SRC DEVICE TRACE ARRIVALS FAILS IMAGE`: the report of a life that goes on from a saved image.
 
-ghost use Rattle.std.specs.Prelude.{◌≡◌, ◌≤◌, ◌<◌, length, IfOk};
+ghost use Rattle.std.specs.Prelude.{◌≡◌, ◌≤◌, ◌<◌, ◌∷◌, [], false, length, IfOk};
 ghost use Rattle.cn_base.specs.Causes.{HasCause};
 ghost use Rattle.cn_base.specs.Writing.{Writes};
 ghost use Rattle.board_core.specs.ModelBoardState.{origin_of, state_of};
@@ -12,6 +12,7 @@ ghost use Rattle.nv_memory.specs.Layout.{size_of};
 ghost use Rattle.degradation.specs.Placed.{IsLayoutOf};
 ghost use Rattle.reference_run.specs.Reference.{AreFor, setting_of};
 ghost use Rattle.cn_runtime.specs.Resumed.{CanGoOn};
+ghost use Rattle.cn_runtime.specs.Steady.{steady_rows};
 ghost use Rattle.catnap_top.specs.Look.{LooksAs};
 ghost use Rattle.catnap_top.specs.Reply.{CanBeWritten, reply_answer};
 ghost use Rattle.catnap_top.specs.Resume.{going, resuming, start_in};
@@ -28,7 +29,8 @@ use checkpoint_slots::Slot;
 use cn_base::{NoMemory, Sink, WriteFail};
 use cn_report::{Shadow, write_resumed};
 use cn_resume::{ImageFault, Saved, accept};
-use cn_runtime::{Prepared, prepare, resume};
+use cn_runtime::{Prepared, prepare, resume, steady_law};
+use degradation::Chosen;
 use harvest_trace::{Fails, Trace};
 use nv_memory::{Device, layouts_are_numbers};
 use recovery::recover;
@@ -59,13 +61,16 @@ pub fn write_rest<K: Sink>(sink: &mut K, resumed: Resumed) -> Result<(), WriteFa
     let Resumed { from, replayed } = resumed;
     let Replayed {
         prepared,
+        given,
         board,
         end,
         mut shadow,
     } = replayed;
     write_resumed(
         &prepared.program,
-        &prepared.chosen,
+        prepared.chosen.as_slice(),
+        &prepared.forecast,
+        given,
         prepared.plan.queue.arrivals(),
         &prepared.plan.layout,
         &board,
@@ -80,11 +85,13 @@ pub fn write_rest<K: Sink>(sink: &mut K, resumed: Resumed) -> Result<(), WriteFa
 fn saved_in(
     alloc: Global,
     prepared: &Prepared,
+    chosen: &Chosen,
     trace: &Trace,
     failures: &Fails,
     image: &[u8],
 ) -> Result<Saved, Stop>
-    requires belong { AreFor (setting_of prepared.now.program prepared.now.chosen.versions prepared.now.plan.queue.arrivals) }
+    requires alone { prepared.now.chosen ≡ chosen.now ∷ [] }
+    requires belong { AreFor (setting_of prepared.now.program chosen.now.versions prepared.now.plan.queue.arrivals) }
     requires layout { IsLayoutOf prepared.now.program prepared.now.device prepared.now.plan.layout }
     ensures { LooksAs start_of (start_in (files_with prepared.now trace.now failures.now) prepared.now.chosen image.now) result }
 {
@@ -92,7 +99,7 @@ fn saved_in(
     match accept(
         alloc,
         &prepared.program,
-        prepared.chosen.versions.as_slice(),
+        chosen.versions.as_slice(),
         prepared.plan.queue.arrivals(),
         &prepared.device,
         life,
@@ -158,6 +165,7 @@ fn run_on(mut prepared: Prepared, begun: BegunAgain) -> Resumed
         from,
         replayed: Replayed {
             prepared,
+            given: false,
             board,
             end,
             shadow,
@@ -167,7 +175,9 @@ fn run_on(mut prepared: Prepared, begun: BegunAgain) -> Resumed
 
 /// Goes on from a saved image with what the files tell, with all memory taken before the first step.
 fn go_on(alloc: Global, files: ReplayFiles, image: &[u8]) -> Result<Resumed, Stop>
-    requires { length files.arrivals.timings ≡ length files.program.events }
+    requires events { length files.arrivals.timings ≡ length files.program.events }
+    requires given { files.given ≡ false }
+    requires steady { files.forecast ≡ steady_rows files.device }
     ensures looks { LooksAs resumed_answer (going files image.now) result }
     ensures written { IfOk result CanTellRest }
 {
@@ -177,15 +187,19 @@ fn go_on(alloc: Global, files: ReplayFiles, image: &[u8]) -> Result<Resumed, Sto
         trace,
         arrivals,
         failures,
+        given,
+        forecast,
     } = files;
     layouts_are_numbers();
+    steady_law();
     fit_images_begin();
     let own = device.copy();
-    let prepared = match prepare(alloc, program, device, arrivals) {
+    let prepared = match prepare(alloc, program, device, arrivals, forecast) {
         Ok(prepared) => prepared,
-        Err(fault) => return Err(stop_for_replay(fault)),
+        Err(fault) => return Err(stop_for_replay(given, fault)),
     };
-    let saved = match saved_in(alloc, &prepared, &trace, &failures, image) {
+    let chosen = &prepared.chosen.as_slice()[0];
+    let saved = match saved_in(alloc, &prepared, chosen, &trace, &failures, image) {
         Ok(saved) => saved,
         Err(stop) => return Err(stop),
     };
@@ -208,7 +222,7 @@ pub fn prepare_resume(
     ensures looks { LooksAs reply_answer (resuming source.now profile.now trace.now arrivals.now failures.now image.now) result }
     ensures written { IfOk result CanBeWritten }
 {
-    let files = replay_files(alloc, source, profile, trace, arrivals, failures)?;
+    let files = replay_files(alloc, source, profile, trace, arrivals, failures, None)?;
     match go_on(alloc, files, image) {
         Ok(resumed) => Ok(Reply::Resume(resumed)),
         Err(stop) => Err(stop),

@@ -46,7 +46,7 @@ pub fn add_step<K: Sink>(page: &mut Page<'_, K>, stepped: Stepped) -> Result<(),
             Piece::Number(i128::from(value)),
             Piece::Text(b"\n"),
         ]),
-        _ => page.text(b""),
+        _ => Ok(()),
     }
 }
 

@@ -21,6 +21,7 @@ pub enum Status {
     BadImage,
     BadObject,
     BadLink,
+    BadForecast,
 }
 
 impl Status {
@@ -43,6 +44,7 @@ impl Status {
             Status::LogFull => 12,
             Status::NoMemory => 13,
             Status::BadImage => 14,
+            Status::BadForecast => 15,
             Status::BadObject => 16,
             Status::BadLink => 17,
         }

@@ -64,10 +64,14 @@ fn respond<I: Inputs, K: Sink>(
 /// - `object SRC`: the object file of the source's code, its words' first values and its tasks' started posts.
 /// - `check SRC DEVICE`: the versions of least degradation in which the device can serve the source's
 ///   events, with what a job in each takes at most, and the numbers of that choice.
+/// - `check SRC DEVICE FORECAST`: the same for each row of a forecast, with what the row says of the harvest, behind a line that tells
+///   the row.
 /// - `plan SRC DEVICE`: the least harvest with which the device serves each event in its version 0, with the
 ///   numbers at it, and why a smaller one does not do; or that no harvest does. The profile's own is not looked at.
 /// - `replay SRC DEVICE TRACE ARRIVALS FAILS`: the report of the source's life on the device, where the
 ///   trace, the arrivals and the failures are as these tables say.
+/// - `replay SRC DEVICE TRACE ARRIVALS FAILS FORECAST`: that report where each row of the forecast says what is sure to be harvested
+///   from its tick on, and has versions, a reserve and a level of its own.
 /// - `image SRC DEVICE TRACE ARRIVALS FAILS`: what that device holds at the end of this life, as a file of bytes.
 /// - `resume SRC DEVICE TRACE ARRIVALS FAILS IMAGE`: the report of a life that goes on from such a file, at its tick and with the
 ///   board off. Of an event that was done before, the report doesn't know when.
@@ -84,7 +88,7 @@ fn respond<I: Inputs, K: Sink>(
 /// faults rose; `BadSource` where the source has more than 262,144 bytes, has no tokens or no tree,
 /// or breaks a condition, with the first of these kinds; `BadDevice` where the profile is none, with
 /// its first fault; `BadTrace`, `BadArrivals` and `BadFails` where a table is none, with its first row
-/// that has a fault; `BadLink` likewise; `WindowTooLong` and `Rejected` where there is no choice; `BadImage` where a
+/// that has a fault; `BadLink` and `BadForecast` likewise; `WindowTooLong` and `Rejected` where there is no choice; `BadImage` where a
 /// condition on the saved image fails, with the first of them. Each of these writes one fault line, and they are looked at in this
 /// order. `BadObject` where the file is no object, with the lowest rule that it breaks. `LogFull` where the log of a replay has no place
 /// for a record; the whole report up to then is written.

@@ -115,7 +115,7 @@ pub fn prepare_uplink(
     ensures looks { LooksAs reply_answer (uplinking source.now profile.now trace.now arrivals.now failures.now link.now) result }
     ensures written { IfOk result CanBeWritten }
 {
-    let files = replay_files(alloc, source, profile, trace, arrivals, failures)?;
+    let files = replay_files(alloc, source, profile, trace, arrivals, failures, None)?;
     let steps = steps_of(alloc, link)?;
     match live_and_send(alloc, files, &steps) {
         Ok(uplinked) => Ok(Reply::Uplink(uplinked)),

@@ -2,7 +2,7 @@
 use Rattle.std.specs.Prelude.{ℕ, ◌+◌, ◌-◌, ◌*◌, List, [], ◌∷◌, length, Bool, true, ◌&&◌, ◌==◌, nat_le, Option, Some, None, option_map, bytes_eq, codes, map, take, drop, string_bytes, String, if◌then◌else◌}
 use Rattle.std.specs.declared.alloc.Global.{Global}
 use Rattle.catnap_words.specs.declared.form.Form.{Form}
-use Rattle.catnap_words.specs.declared.form.Form.TheVariants.{Run, List as Listing, Check, Plan, Replay, Image, Resume, Uplink, Object, RunObject, Bench}
+use Rattle.catnap_words.specs.declared.form.Form.TheVariants.{Run, List as Listing, Check, CheckForecast, Plan, Replay, ReplayForecast, Image, Resume, Uplink, Object, RunObject, Bench}
 
 -- the bytes of each word
 abbrev pub texts : List (String Global) → List (List ℕ)
@@ -40,8 +40,10 @@ abbrev pub file_count : Form → ℕ
 file_count (Run _) = 1
 file_count Listing = 1
 file_count Check = 2
+file_count CheckForecast = 3
 file_count Plan = 2
 file_count Replay = 5
+file_count ReplayForecast = 6
 file_count Image = 5
 file_count Resume = 6
 file_count Uplink = 6
@@ -52,6 +54,10 @@ file_count (Bench _) = 0
 -- a form whose words are its files alone, behind which so many words stand
 abbrev pub with_files : Form → ℕ → Option Form
 with_files form count = if count == file_count form then Some form else None
+
+-- such a form, or the one with a forecast behind its files
+abbrev pub with_forecast : Form → Form → ℕ → Option Form
+with_forecast form other count = if count == file_count form then Some form else with_files other count
 
 -- the steps of `FILE STEPS`, STEPS having 1 to 7 digits
 abbrev pub steps_of : List (List ℕ) → Option ℕ
@@ -76,9 +82,9 @@ abbrev pub form_by : List ℕ → List (List ℕ) → Option Form
 form_by command behind =
     if bytes_eq command (codes "run") then run_of behind
     else if bytes_eq command (codes "list") then with_files Listing (length behind)
-    else if bytes_eq command (codes "check") then with_files Check (length behind)
+    else if bytes_eq command (codes "check") then with_forecast Check CheckForecast (length behind)
     else if bytes_eq command (codes "plan") then with_files Plan (length behind)
-    else if bytes_eq command (codes "replay") then with_files Replay (length behind)
+    else if bytes_eq command (codes "replay") then with_forecast Replay ReplayForecast (length behind)
     else if bytes_eq command (codes "image") then with_files Image (length behind)
     else if bytes_eq command (codes "resume") then with_files Resume (length behind)
     else if bytes_eq command (codes "uplink") then with_files Uplink (length behind)

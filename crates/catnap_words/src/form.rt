@@ -10,10 +10,14 @@ pub enum Form {
     List,
     /// `check SRC DEVICE`
     Check,
+    /// `check SRC DEVICE FORECAST`
+    CheckForecast,
     /// `plan SRC DEVICE`
     Plan,
     /// `replay SRC DEVICE TRACE ARRIVALS FAILS`
     Replay,
+    /// `replay SRC DEVICE TRACE ARRIVALS FAILS FORECAST`
+    ReplayForecast,
     /// `image SRC DEVICE TRACE ARRIVALS FAILS`
     Image,
     /// `resume SRC DEVICE TRACE ARRIVALS FAILS IMAGE`
@@ -36,8 +40,9 @@ impl Form {
         match self {
             Form::Run { .. } | Form::List | Form::Object | Form::RunObject { .. } => 1,
             Form::Check | Form::Plan => 2,
+            Form::CheckForecast => 3,
             Form::Replay | Form::Image => 5,
-            Form::Resume | Form::Uplink => 6,
+            Form::ReplayForecast | Form::Resume | Form::Uplink => 6,
             Form::Bench { .. } => 0,
         }
     }

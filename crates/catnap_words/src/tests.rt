@@ -29,3 +29,16 @@ fn words_ask_for_an_object(rt: HostRuntime) -> Result<(), Fail> {
     assert_eq!(rt; form, Form::RunObject { steps: 7 });
     Ok(())
 }
+
+#[test]
+fn a_forecast_is_one_word_more(rt: HostRuntime) -> Result<(), Fail> {
+    let words = vec![in rt.alloc();
+        String::from_str(rt.alloc(), "check")?,
+        String::from_str(rt.alloc(), "a.cat")?,
+        String::from_str(rt.alloc(), "a.toml")?,
+        String::from_str(rt.alloc(), "f.csv")?,
+    ]?;
+    assert_eq!(rt; form_in(words.as_slice()), Some(Form::CheckForecast));
+    assert_eq!(rt; form_in(&words.as_slice()[0..3]), Some(Form::Check));
+    Ok(())
+}

@@ -1,5 +1,5 @@
 ghost use Rattle.std.specs.Prelude.{◌≡◌, ◌≤◌, ◌<◌, length, IfSome};
-ghost use Rattle.catnap_words.specs.Words.{bench_of, file_count, form_by, form_of, names_of, run_object_of, run_of, steps_of, texts, with_files};
+ghost use Rattle.catnap_words.specs.Words.{bench_of, file_count, form_by, form_of, names_of, run_object_of, run_of, steps_of, texts, with_files, with_forecast};
 
 use crate::form::Form;
 use crate::number::number;
@@ -18,6 +18,18 @@ fn with_files(form: Form, count: usize) -> Option<Form>
         Some(form)
     } else {
         None
+    }
+}
+
+/// A form, or the one with a forecast behind its files.
+fn with_forecast(form: Form, other: Form, count: usize) -> Option<Form>
+    ensures form { result ≡ with_forecast form other count }
+    ensures enough { IfSome result (λ form. file_count form ≤ count) }
+{
+    if count == form.files() {
+        Some(form)
+    } else {
+        with_files(other, count)
     }
 }
 
@@ -71,13 +83,13 @@ fn form_by(command: &str, behind: &[String]) -> Option<Form>
         return with_files(Form::List, count);
     }
     if command == "check" {
-        return with_files(Form::Check, count);
+        return with_forecast(Form::Check, Form::CheckForecast, count);
     }
     if command == "plan" {
         return with_files(Form::Plan, count);
     }
     if command == "replay" {
-        return with_files(Form::Replay, count);
+        return with_forecast(Form::Replay, Form::ReplayForecast, count);
     }
     if command == "image" {
         return with_files(Form::Image, count);

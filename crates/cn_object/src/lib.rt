@@ -12,8 +12,6 @@ mod operands;
 mod parts;
 mod reading;
 mod regions;
-#[cfg(test)]
-mod tests;
 mod verifying;
 mod writing;
 

@@ -8,8 +8,6 @@ mod harvest;
 mod law;
 mod search;
 mod served;
-#[cfg(test)]
-mod tests;
 mod text;
 mod whole;
 

@@ -6,4 +6,4 @@ pub mod Texts
 pub mod Moments
 pub mod Records
 pub mod Counting
-pub mod Sleeping
+pub mod Silence

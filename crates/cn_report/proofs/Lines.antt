@@ -7,7 +7,7 @@ use Rattle.demand_core.specs.declared.Load.{Load}
 use Rattle.demand_core.specs.declared.Numbers.{Numbers}
 use Rattle.feasibility.specs.Chosen.{no_load}
 use Rattle.degradation.specs.declared.chosen.Chosen.{Chosen}
-use Rattle.cn_report.specs.Report.{name_of, version_line, event_line, numbers_line, window_line}
+use Rattle.cn_report.specs.Report.{name_of, version_line, event_line, numbers_line}
 
 -- the line of an event by what is read of it
 pub event_line_is : (p : Checked) (chosen : Chosen) (e : ℕ) (versions : List ℕ) (loads : List Load) (event : Event) (name : List ℕ)
@@ -20,9 +20,6 @@ event_line_is p chosen e versions loads event name v l h n =
     ∙ ap (λ o. version_line (name_of o) (slice_index chosen.versions e) (slice_index_or chosen.loads e no_load)) (sym h)
 
 -- ---- lines by their numbers
-
-pub window_is : (text : List ℕ) (spacing : ℕ) → text ≡ decimal spacing → codes "fault window " ++ (text ++ codes "\n") ≡ window_line spacing
-window_is text spacing e = ap (λ t. codes "fault window " ++ (t ++ codes "\n")) e
 
 pub numbers_is : (n : Numbers) (lines checkpoint section kept level window : List ℕ) → lines ≡ decimal n.lines → checkpoint ≡ decimal n.checkpoint → section ≡ decimal n.section
     → kept ≡ decimal n.reserve → level ≡ decimal n.level → window ≡ decimal n.window

@@ -95,7 +95,7 @@ module _ (program : Checked) (past : Past) (r : IsReplayed program past) where
   pub few : (last_slot past).len ≤ past.layout.log
   few = omega (arith, r.committed.formed.len_fits, ap (λ (s : Slot). s.len) (committed-is past (length past.timeline)))
 
-  module _ (read_again : (l : Layout) (entry : LogEntry) → EntryFits entry → entry_of l (record_of l entry) ≡ entry) (place : ℕ) (less : place < (last_slot past).len) where
+  module _ (read_again : (l : Layout) (entry : LogEntry) → EntryFits l entry → entry_of l (record_of l entry) ≡ entry) (place : ℕ) (less : place < (last_slot past).len) where
     abbrev entry : LogEntry
     entry = get_or r.value.entries place (Out 0 (pos 0))
 

@@ -1,6 +1,6 @@
 -- Texts of many pieces.
 use Rattle.std.proofs.Common.{◌≡◌, ℕ, zero, suc, ◌+◌, ◌≤◌, List, [], ◌∷◌, ◌++◌, length, map, Some, subst, refl, sym, ap, ◌∙◌, arith, append_assoc, append-nil}
-use Rattle.std.specs.List.{range_with_len}
+use Rattle.std.specs.List.{range_with_len, zip}
 use Rattle.std.specs.Prelude.{slice_get, codes, decimal}
 use Rattle.cat_program.specs.declared.headers.Variable.{Variable}
 use Rattle.cat_program.specs.declared.headers.Event.{Event}
@@ -61,3 +61,19 @@ end-is tick stored steps tick' stored' steps' word ending a b c d = λ i. line (
 -- what was chosen, by the headers alone
 pub choice-is : (p : Checked) (chosen : Chosen) → IsChecked p → chosen_text p chosen ≡ choice_text p.headers chosen
 choice-is p chosen checked = ap (λ (n : ℕ). in_turn (header_line p.headers chosen) n ++ numbers_line chosen.numbers) (sym (headers_count p.headers p.events checked.declares))
+
+-- ---- pairs of two lists
+
+pub zip_at : {A B : Type 0} (xs : List A) (ys : List B) (i : ℕ) (x : A) (y : B) → slice_get xs i ≡ Some x → slice_get ys i ≡ Some y → slice_get (zip xs ys) i ≡ Some (x, y)
+zip_at [] ys i x y a b = absurd (cc)
+zip_at (v ∷ xs) [] i x y a b = absurd (cc)
+zip_at (v ∷ xs) (w ∷ ys) zero x y a b =
+    let first : v ≡ x = cc in
+    let second : w ≡ y = cc in
+    λ i. Some (first i, second i)
+zip_at (v ∷ xs) (w ∷ ys) (suc i) x y a b = zip_at xs ys i x y a b
+
+pub zip_few : {A B : Type 0} (xs : List A) (ys : List B) → length (zip xs ys) ≤ length xs
+zip_few [] ys = omega arith
+zip_few (x ∷ xs) [] = omega arith
+zip_few (x ∷ xs) (y ∷ ys) = let more = zip_few xs ys in omega (arith, more)

@@ -1,6 +1,6 @@
 -- What a write leaves at one place, and in a window.
-use Rattle.std.proofs.Common.{◌≡◌, ℕ, ◌+◌, ◌-◌, ◌≤◌, ◌<◌, true, false, nat_lt, nat_le, List, ◌++◌, length, take, drop, get_or, refl, sym, ap, ◌∙◌, arith, length-append}
-use Rattle.std.specs.Prelude.{◌||◌, if◌then◌else◌}
+use Rattle.std.proofs.Common.{◌≡◌, ℕ, ◌+◌, ◌-◌, ◌≤◌, ◌<◌, Bool, true, false, inl, inr, nat_lt, nat_le, List, ◌++◌, length, take, drop, get_or, refl, sym, ap, ◌∙◌, arith, length-append}
+use Rattle.std.specs.Prelude.{◌||◌, ◌⊎◌, if◌then◌else◌}
 use Rattle.std.proofs.lemmas.Bool.Decides.{nat_tests}
 use Rattle.std.proofs.lemmas.List.{get_or-drop, get_or-take, get_or_append_left, get_or-append_right, length-take-le, length-take, ext_get_or}
 use Rattle.std.proofs.lemmas.Grind.{common_steps}
@@ -75,3 +75,21 @@ window_after image left old new place at within is same taken =
     ∙ ap (λ b. byte_then b (place + i) at left) (byte_in place 8 i image under)
     ∙ sym (byte_written at (place + i) left image (omega arith))
     ∙ sym (byte_in place 8 i (written at left image) under))
+
+-- ---- a write that doesn't reach a window
+
+kept : (early late : Bool) (byte other : ℕ) → (early ≡ true) ⊎ (late ≡ true) → (if early || late then byte else other) ≡ byte
+kept true late byte other one = refl
+kept false true byte other one = refl
+kept false false byte other (inl e) = absurd cc
+kept false false byte other (inr e) = absurd cc
+
+pub byte_apart : (place at k byte : ℕ) (left : List ℕ) → (place + 8 ≤ at) ⊎ (at + length left ≤ place) → k < 8 → byte_then byte (place + k) at left ≡ byte
+byte_apart place at k byte left (inl behind) below = kept (nat_lt (place + k) at) (nat_le (length left) (place + k - at)) byte _ (inl (grind (arith, nat_tests)))
+byte_apart place at k byte left (inr before) below = kept (nat_lt (place + k) at) (nat_le (length left) (place + k - at)) byte _ (inr (grind (arith, nat_tests)))
+
+-- a window that took over nothing
+pub window_apart : (image left old : List ℕ) (place at : ℕ) → place + 8 ≤ length image → old ≡ bytes_at place 8 image
+    → ((k : ℕ) → k < 8 → (byte : ℕ) → byte_then byte (place + k) at left ≡ byte)
+    → old ≡ bytes_at place 8 (written at left image)
+window_apart image left old place at within is apart = window_after image left old old place at within is refl (λ i below. sym (apart i below (get_or old i 0)))

@@ -1,5 +1,6 @@
--- The text of a choice of versions, and the line that says why there is none.
-use Rattle.std.specs.Prelude.{ℕ, List, [], ◌∷◌, ◌++◌, length, Option, Some, None, slice_get, slice_index, slice_index_or, codes, decimal}
+-- The text of a choice of versions for each row of a forecast, and the line that says why a row has none.
+use Rattle.std.specs.Prelude.{ℕ, List, [], ◌∷◌, ◌++◌, length, Option, Some, None, slice_get, slice_index, slice_index_or, codes, decimal, Bool, true, false}
+use Rattle.std.specs.List.{flat_map, zip}
 use Rattle.cn_base.specs.Texts.{line, in_turn}
 use Rattle.cat_program.specs.declared.headers.Event.{Event}
 use Rattle.cat_program.specs.Checked.{Checked}
@@ -9,6 +10,7 @@ use Rattle.feasibility.specs.declared.decide.Verdict.{Verdict}
 use Rattle.feasibility.specs.declared.decide.Verdict.TheVariants.{Yes, F1, F2, F3}
 use Rattle.feasibility.specs.Chosen.{no_load}
 use Rattle.degradation.specs.declared.chosen.Chosen.{Chosen}
+use Rattle.forecast_table.specs.declared.epoch.Epoch.{Epoch}
 
 -- ---- a choice
 
@@ -41,11 +43,33 @@ choice_text headers chosen = in_turn (header_line headers chosen) (length header
 abbrev pub chosen_text : Checked → Chosen → List ℕ
 chosen_text p chosen = in_turn (event_line p chosen) (length p.events) ++ numbers_line chosen.numbers
 
+-- ---- a choice for each row of a forecast
+
+abbrev pub forecast_line : Epoch → List ℕ
+forecast_line row = line (codes "forecast" ∷ decimal row.tick ∷ decimal row.p ∷ decimal row.q ∷ [])
+
+-- what stands before a row's choice: the row itself, where it is shown
+abbrev pub row_head : Bool → Epoch → List ℕ
+row_head true row = forecast_line row
+row_head false row = []
+
+abbrev pub row_text : List Event → Bool → Epoch × Chosen → List ℕ
+row_text headers shown (row, chosen) = row_head shown row ++ choice_text headers chosen
+
+-- the choice for each row in order
+abbrev pub rows_text : List Event → Bool → List Epoch → List Chosen → List ℕ
+rows_text headers shown rows found = flat_map (row_text headers shown) (zip rows found)
+
 -- ---- no choice
 
+-- the number of the row that has none, where it is told
+abbrev pub row_words : Option ℕ → List (List ℕ)
+row_words None = []
+row_words (Some row) = decimal row ∷ []
+
 -- with this spacing the window is too long
-abbrev pub window_line : ℕ → List ℕ
-window_line spacing = line (codes "fault" ∷ codes "window" ∷ decimal spacing ∷ [])
+abbrev pub window_line : Option ℕ → ℕ → List ℕ
+window_line row spacing = line (codes "fault" ∷ codes "window" ∷ (row_words row ++ decimal spacing ∷ []))
 
 -- the inequality that fails: at which length, if it has one, and both sides
 abbrev pub verdict_words : Verdict → List (List ℕ)
@@ -54,5 +78,5 @@ verdict_words (F1 left right) = codes "F1" ∷ decimal left ∷ decimal right �
 verdict_words (F2 left right) = codes "F2" ∷ decimal left ∷ decimal right ∷ []
 verdict_words (F3 at left right) = codes "F3" ∷ decimal at ∷ decimal left ∷ decimal right ∷ []
 
-abbrev pub rejected_line : Verdict → List ℕ
-rejected_line verdict = line (codes "fault" ∷ codes "rejected" ∷ verdict_words verdict)
+abbrev pub rejected_line : Option ℕ → Verdict → List ℕ
+rejected_line row verdict = line (codes "fault" ∷ codes "rejected" ∷ (row_words row ++ verdict_words verdict))

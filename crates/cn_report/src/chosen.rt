@@ -1,17 +1,18 @@
-//! The lines of a choice of versions.
+//! The lines of the choices of versions for the rows of a forecast.
 
-ghost use Rattle.std.specs.Prelude.{◌≡◌, length};
+ghost use Rattle.std.specs.Prelude.{◌≡◌, length, All};
 ghost use Rattle.cn_base.specs.Causes.{HasCause};
 ghost use Rattle.cn_base.specs.PageWords.{AddsTo, sink_in, sink_name};
 ghost use Rattle.cn_base.specs.Writing.{Writes};
 ghost use Rattle.degradation.specs.Choice.{Suits};
 ghost use Rattle.cn_base.specs.Texts.{in_turn};
-ghost use Rattle.cn_report.specs.Report.{version_line, numbers_line, event_line, chosen_text};
+ghost use Rattle.cn_report.specs.Report.{version_line, numbers_line, event_line, chosen_text, forecast_line, row_head, row_text, rows_text};
 
 use cat_program::Program;
 use cn_base::{Page, Piece, Sink, WriteFail};
 use degradation::Chosen;
 use demand_core::{Load, Numbers};
+use forecast_table::{Epoch, Forecast};
 use itoa::Buffer;
 
 /// Adds the line of an event in its version.
@@ -108,19 +109,97 @@ pub fn add_chosen<K: Sink>(
     }
 }
 
-/// Writes the chosen version of each event, with the most units and ticks that a job in it takes, and then the numbers: a line for
-/// each, or a proper prefix of the text where a write fails. Takes no memory.
-pub fn write_chosen<K: Sink>(
+/// Adds the line of a row of a forecast.
+fn add_forecast<K: Sink>(page: &mut Page<'_, K>, row: &Epoch) -> Result<(), WriteFail>
+    ensures same_sink { sink_name page.new ≡ sink_name page.old }
+    ensures text { AddsTo K.written page.old page.new (forecast_line row.now) result }
+    ensures cause { HasCause (K.faults (sink_in page.old)) (K.faults (sink_in page.new)) result }
+{
+    page.line(&[
+        Piece::Text(b"forecast "),
+        Piece::Number(i128::from(row.tick)),
+        Piece::Text(b" "),
+        Piece::Number(i128::from(row.p)),
+        Piece::Text(b" "),
+        Piece::Number(i128::from(row.q)),
+        Piece::Text(b"\n"),
+    ])
+}
+
+/// Adds what stands before a row's choice.
+fn add_head<K: Sink>(page: &mut Page<'_, K>, row: &Epoch, shown: bool) -> Result<(), WriteFail>
+    ensures same_sink { sink_name page.new ≡ sink_name page.old }
+    ensures text { AddsTo K.written page.old page.new (row_head shown row.now) result }
+    ensures cause { HasCause (K.faults (sink_in page.old)) (K.faults (sink_in page.new)) result }
+{
+    if shown {
+        add_forecast(page, row)
+    } else {
+        Ok(())
+    }
+}
+
+/// Adds the lines of a row.
+fn add_row<K: Sink>(
+    page: &mut Page<'_, K>,
     program: &Program,
+    row: &Epoch,
     chosen: &Chosen,
-    sink: &mut K,
+    shown: bool,
 ) -> Result<(), WriteFail>
     requires { Suits program.now chosen.now }
-    ensures text { Writes (K.written sink.old) (K.written sink.new) (chosen_text program.now chosen.now) result }
+    ensures same_sink { sink_name page.new ≡ sink_name page.old }
+    ensures text { AddsTo K.written page.old page.new (row_text program.now.headers shown (row.now, chosen.now)) result }
+    ensures cause { HasCause (K.faults (sink_in page.old)) (K.faults (sink_in page.new)) result }
+{
+    let _checked = program.bodies();
+    match add_head(page, row, shown) {
+        Ok(()) => add_chosen(page, program, chosen),
+        Err(fail) => Err(fail),
+    }
+}
+
+/// Adds the lines of each row of a forecast: where it is shown, a line that tells it, and then those of the choice for it. For a text
+/// in which more follows.
+pub(crate) fn add_rows<K: Sink>(
+    page: &mut Page<'_, K>,
+    program: &Program,
+    chosen: &[Chosen],
+    forecast: &Forecast,
+    shown: bool,
+) -> Result<(), WriteFail>
+    requires count { length chosen.now ≡ length forecast.now }
+    requires suits { All (Suits program.now) chosen.now }
+    ensures same_sink { sink_name page.new ≡ sink_name page.old }
+    ensures text { AddsTo K.written page.old page.new (rows_text program.now.headers shown forecast.now chosen.now) result }
+    ensures cause { HasCause (K.faults (sink_in page.old)) (K.faults (sink_in page.new)) result }
+{
+    for (i, row) in forecast.rows().iter().enumerate() {
+        match add_row(page, program, row, &chosen[i], shown) {
+            Ok(()) => {}
+            Err(fail) => return Err(fail),
+        }
+    }
+    Ok(())
+}
+
+/// Writes for each row of a forecast the chosen version of each event, with the most units and ticks that a job in it takes, and then
+/// the numbers: a line for each. Where the forecast is shown, a line before them tells the row. A proper prefix of the text is written
+/// where a write fails. Takes no memory.
+pub fn write_chosen<K: Sink>(
+    program: &Program,
+    chosen: &[Chosen],
+    forecast: &Forecast,
+    shown: bool,
+    sink: &mut K,
+) -> Result<(), WriteFail>
+    requires count { length chosen.now ≡ length forecast.now }
+    requires suits { All (Suits program.now) chosen.now }
+    ensures text { Writes (K.written sink.old) (K.written sink.new) (rows_text program.now.headers shown forecast.now chosen.now) result }
     ensures cause { HasCause (K.faults sink.old) (K.faults sink.new) result }
 {
     let mut page = Page::on(sink);
-    match add_chosen(&mut page, program, chosen) {
+    match add_rows(&mut page, program, chosen, forecast, shown) {
         Ok(()) => page.close(),
         Err(fail) => Err(fail),
     }

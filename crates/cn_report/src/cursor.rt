@@ -4,7 +4,7 @@ ghost use Rattle.std.specs.Prelude.{◌≡◌, ◌<◌, ◌≤◌, ℕ, length};
 ghost use Rattle.recovery.specs.Past.{past_of, committed_at, last_slot, done_at};
 
 use crate::heads::Heads;
-use crate::resting::last_asleep;
+use crate::silent::last_silent;
 use crate::story::ended;
 use nv_memory::{Board, Layout};
 
@@ -32,7 +32,7 @@ impl Cursor {
         }
     }
 
-    // Passes one entry, or a run of sleep, in which nothing is committed.
+    // Passes one entry, and before it a run of silent ones, in which nothing is committed.
     fn pass<B: Board>(&mut self, layout: &Layout, board: &B)
         requires more { self.old.passed < length (B.state board.now).timeline }
         requires passed { HasPassed (past_of layout.now (B.start (B.origin board.now)) (B.state board.now)) self.old }
@@ -40,7 +40,7 @@ impl Cursor {
         ensures quiet { (n : ℕ) → self.old.passed ≤ n → n < self.new.passed → committed_at (past_of layout.now (B.start (B.origin board.now)) (B.state board.now)) n ≡ committed_at (past_of layout.now (B.start (B.origin board.now)) (B.state board.now)) self.old.passed }
         ensures passed { HasPassed (past_of layout.now (B.start (B.origin board.now)) (B.state board.now)) self.new }
     {
-        let last = last_asleep(board, self.passed);
+        let last = last_silent(board, self.passed);
         let entry = board.entry(last);
         self.heads.follow(layout, &entry.op);
         self.ended = ended(&entry);

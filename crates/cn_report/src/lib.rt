@@ -8,12 +8,10 @@ mod fault;
 mod heads;
 mod log;
 mod report;
-mod resting;
 mod shadow;
+mod silent;
 mod story;
 mod tallying;
-#[cfg(test)]
-mod tests;
 mod variables;
 mod window;
 

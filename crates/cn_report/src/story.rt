@@ -11,7 +11,7 @@ ghost use Rattle.cn_report.specs.Windows.{AreHeads};
 ghost use Rattle.checkpoint_slots.specs.declared.slot.Slot.{Slot as Kept};
 
 use crate::heads::Heads;
-use crate::resting::last_asleep;
+use crate::silent::last_silent;
 use cat_program::Program;
 use cn_base::{Page, Piece, Sink, WriteFail};
 use event_arrivals::{Arrivals, Dropped};
@@ -155,7 +155,8 @@ fn add_entry<K: Sink>(
     }
 }
 
-/// The line of each entry that has one, in order; sleep has none, and a run of it is passed at once. The heads are those of the board's first image.
+/// The line of each entry that has one, in order. Silent entries have none, and a run of them is passed at once. The heads are those
+/// of the board's first image.
 pub(crate) fn add_story<B: Board, K: Sink>(
     page: &mut Page<'_, K>,
     layout: &Layout,
@@ -170,7 +171,7 @@ pub(crate) fn add_story<B: Board, K: Sink>(
     let entries = board.entries();
     let mut place = 0;
     while place < entries {
-        let last = last_asleep(board, place);
+        let last = last_silent(board, place);
         let entry = board.entry(last);
         heads.follow(layout, &entry.op);
         add_entry(page, &entry, heads.len(), heads.steps())?;

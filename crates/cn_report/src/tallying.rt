@@ -16,7 +16,6 @@ use crate::counts::Tally;
 use crate::cursor::Cursor;
 use crate::heads::Heads;
 use crate::log::{committed_entry, due};
-use crate::resting::last_asleep;
 use crate::shadow::Shadow;
 use cat_program::{LogEntry, Program};
 use event_arrivals::Arrivals;
@@ -55,22 +54,6 @@ fn is_met(program: &Program, arrivals: &Arrivals, done: u64, entry: LogEntry) ->
         LogEntry::Out { .. } => false,
         LogEntry::Ran { event, index, .. } => done <= due(program, arrivals, event, index),
     }
-}
-
-// How many operations were lost.
-fn count_lost<B: Board>(board: &B) -> u32
-    ensures { result ≡ count_by (λ entry. entry.lost) (B.state board.now).timeline }
-{
-    let entries = board.entries();
-    let mut lost = 0;
-    let mut place = 0;
-    while place < entries {
-        let last = last_asleep(board, place);
-        let entry = board.entry(last);
-        lost += one_if(entry.lost);
-        place = last + 1;
-    }
-    lost
 }
 
 // How many committed records are of each kind. The heads are those of the board's first image, which has no records.
@@ -125,8 +108,7 @@ pub fn tally<B: Board>(
     ensures tally { result ≡ tally_of program.now.headers arrivals.now (past_of layout.now (B.start (B.origin board.now)) (B.state board.now)) }
     ensures made { IsMadeFor layout.now shadow.new.slot }
 {
-    let lost = count_lost(board);
-    let _sound = board.entries();
+    let lost = board.losses();
     arrivals.are_sound();
     recover(board, layout, &mut shadow.slot);
     let counts = count_log(

@@ -1,6 +1,6 @@
 //! Eight bytes of an image that are kept up with what is written into it.
 
-ghost use Rattle.std.specs.Prelude.{◌≡◌, ◌+◌, ◌≤◌, ◌<◌, ℕ, List, ◌∷◌, [], replicate, length, slice_index};
+ghost use Rattle.std.specs.Prelude.{◌≡◌, true, ◌+◌, ◌≤◌, ◌<◌, ℕ, List, ◌∷◌, [], replicate, length, slice_index};
 ghost use Rattle.std.specs.Int.{w32, from_le_bytes};
 ghost use Rattle.cn_report.specs.Bytes.{byte_then};
 
@@ -22,6 +22,15 @@ fn byte_after(byte: u8, place: u64, at: u32, left: &[u8]) -> u8
     } else {
         left[(place - at) as usize]
     }
+}
+
+// Whether a write ends before the window that stands at this place, or begins behind it.
+fn is_apart(place: u32, at: u32, left: &[u8]) -> bool
+    ensures { result ≡ true → (k : ℕ) → k < 8 → (byte : ℕ) → byte_then byte (place + k) at left.now ≡ byte }
+{
+    let from = u64::from(at);
+    let behind = u64::from(place) + 8;
+    behind <= from || from + left.len() as u64 <= u64::from(place)
 }
 
 impl Window {
@@ -52,6 +61,9 @@ impl Window {
     pub(crate) fn follow(&mut self, place: u32, at: u32, left: &[u8])
         ensures { (image : List ℕ) → Shows image place self.old → Shows (written at left.now image) place self.new }
     {
+        if is_apart(place, at, left) {
+            return;
+        }
         for k in 0..8 {
             let held = self.bytes[k];
             self.bytes[k] = byte_after(held, u64::from(place) + k as u64, at, left);

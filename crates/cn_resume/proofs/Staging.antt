@@ -1,6 +1,6 @@
 -- What is found out about an image decides its conditions one after the other.
-use Rattle.std.proofs.Common.{◌≡◌, ◌≤◌, ◌<◌, ◌+◌, ℕ, List, length, length-drop, Option, Result, Ok, Err, refl, sym, ap, ◌∙◌, subst, arith}
-use Rattle.std.specs.Prelude.{IfErr, OnOk}
+use Rattle.std.proofs.Common.{Bool, true, false, ◌≡◌, ◌≤◌, ◌<◌, ◌+◌, ℕ, List, length, length-drop, Option, Result, Ok, Err, refl, sym, ap, ◌∙◌, subst, arith}
+use Rattle.std.specs.Prelude.{IfErr, OnOk, ◌==◌, ◌*◌, if◌then◌else◌}
 use Rattle.std.specs.Option.{option_and_then}
 use Rattle.std.proofs.lemmas.List.FromFn.{length-map-range_with_len}
 use Rattle.cat_program.specs.declared.outs.LogEntry.{LogEntry}
@@ -10,7 +10,7 @@ use Rattle.cat_program.specs.Resting.{RestsAt}
 use Rattle.nv_memory.specs.declared.layout.Layout.{Layout}
 use Rattle.nv_memory.specs.declared.device.Device.{Device}
 use Rattle.nv_memory.specs.Laws.{LayoutsAreNumbers}
-use Rattle.nv_memory.specs.Layout.{size_of}
+use Rattle.nv_memory.specs.Layout.{lines_of, size_of}
 use Rattle.degradation.specs.Placed.{IsLayoutOf}
 use Rattle.checkpoint_slots.specs.declared.slot.Slot.{Slot}
 use Rattle.checkpoint_slots.specs.Image.{committed_bytes, committed_slot, IsWellFormed}
@@ -27,12 +27,17 @@ use Rattle.cn_resume.proofs.Running.{current_is}
 use Rattle.cn_resume.proofs.Order.{one_further, all_hold}
 
 -- an image has less than 2 ^ 32 bytes
+few_by : (short : Bool) (base lines log : ℕ) → base ≤ (if short then 64 else 16008640) → lines ≤ 67 → log ≤ 1000000
+    → base + 128 * lines + (if short then 16 else 24) * log < 4294967280
+few_by true base lines log low few records = omega (arith, low, few, records)
+few_by false base lines log low few records = omega (arith, low, few, records)
+
 pub size_few : (l : Layout) → size_of l < 4294967280
-size_few l = omega (arith, l.words_in_range, l.tasks_in_range, l.events_in_range, l.log_in_range)
+size_few l = few_by (l.format == 1) l.base (lines_of l) l.log l.base_in_range (omega (arith, l.words_in_range, l.tasks_in_range, l.events_in_range)) l.log_in_range
 
 -- a program has one layout on a device
 pub one_layout : LayoutsAreNumbers → (p : Checked) (d : Device) (a b : Layout) → IsLayoutOf p d a → IsLayoutOf p d b → a ≡ b
-one_layout law p d a b one other = law a b (one.words ∙ sym other.words) (one.tasks ∙ sym other.tasks) (one.events ∙ sym other.events) (one.log ∙ sym other.log)
+one_layout law p d a b one other = law a b (one.words ∙ sym other.words) (one.tasks ∙ sym other.tasks) (one.events ∙ sym other.events) (one.log ∙ sym other.log) (one.format ∙ sym other.format) (one.base ∙ sym other.base)
 
 -- what holds of a tick and an image holds of a file's where they are the same
 pub told_of : (T : ℕ → List ℕ → Type 0) (tick : ℕ) (image file : List ℕ) → tick ≡ tick_in file → image ≡ image_in file → T tick image → T (tick_in file) (image_in file)

@@ -85,6 +85,8 @@ fn layout_for(program: &Program, device: &Device) -> Layout
         tasks: program.tasks(),
         events: program.events(),
         log: device.log,
+        format: 1,
+        base: 64,
     }
 }
 

@@ -17,6 +17,3 @@ pub use fault::{ImageFault, ImageKind};
 pub use laws::{fit_files_are_accepted, one_verdict};
 pub use saved::Saved;
 pub use saving::write_saved;
-
-#[cfg(test)]
-mod tests;

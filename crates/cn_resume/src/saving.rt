@@ -1,10 +1,11 @@
 //! Writing a saved image.
 
-ghost use Rattle.std.specs.Prelude.{◌≡◌};
+ghost use Rattle.std.specs.Prelude.{◌≡◌, ◌≤◌, ◌+◌, length};
 ghost use Rattle.cn_base.specs.Causes.{HasCause};
 ghost use Rattle.cn_base.specs.PageWords.{AddsTo, sink_in, sink_name};
 ghost use Rattle.cn_base.specs.Writing.{Writes};
 ghost use Rattle.cn_resume.specs.Saved.{head_bytes, saved_bytes};
+ghost use Rattle.nv_memory.specs.Bytes.{bytes_at};
 
 use cn_base::{Page, Piece, Sink, WriteFail};
 use nv_memory::Board;
@@ -23,17 +24,45 @@ fn add_head<K: Sink>(page: &mut Page<'_, K>, tick: u32, stored: u32) -> Result<(
     ])
 }
 
+// How many bytes of the memory go to the page at once.
+const PART: u32 = 512;
+
+// Adds so many bytes of the board's memory from a place on, as many as a part has at most.
+fn add_part<B: Board, K: Sink>(
+    page: &mut Page<'_, K>,
+    board: &B,
+    from: u32,
+    count: u32,
+) -> Result<(), WriteFail>
+    requires few { count ≤ 512 }
+    requires within { from + count ≤ length (B.state board.now).image }
+    ensures same_sink { sink_name page.new ≡ sink_name page.old }
+    ensures text { AddsTo K.written page.old page.new (bytes_at from count (B.state board.now).image) result }
+    ensures cause { HasCause (K.faults (sink_in page.old)) (K.faults (sink_in page.new)) result }
+{
+    let _sound = board.size();
+    let mut part = [0; 512];
+    for k in 0..count {
+        part[k as usize] = board.read(from + k);
+    }
+    page.text(&part[..count as usize])
+}
+
 /// Adds the bytes of the board's memory.
 fn add_image<B: Board, K: Sink>(page: &mut Page<'_, K>, board: &B) -> Result<(), WriteFail>
     ensures same_sink { sink_name page.new ≡ sink_name page.old }
     ensures text { AddsTo K.written page.old page.new (B.state board.now).image result }
     ensures cause { HasCause (K.faults (sink_in page.old)) (K.faults (sink_in page.new)) result }
 {
-    for at in 0..board.size() {
-        match page.text(&[board.read(at)]) {
+    let size = board.size();
+    let mut from = 0;
+    while from < size {
+        let count = PART.min(size - from);
+        match add_part(page, board, from, count) {
             Ok(()) => {}
             Err(fail) => return Err(fail),
         }
+        from += count;
     }
     Ok(())
 }

@@ -2,7 +2,7 @@
 use Rattle.std.proofs.Common.{◌≡◌, ℕ, zero, suc, ◌+◌, ◌<◌, ◌≤◌, List, [], ◌∷◌, ◌++◌, append_assoc, drop, length, max, Some, refl, sym, ap, subst, ◌∙◌, arith}
 use Rattle.std.specs.Prelude.{All, sum_by, get_or, slice_get, slice_index}
 use Rattle.std.proofs.lemmas.List.{drop_all, drop_more}
-use Rattle.std.proofs.lemmas.Option.{get_or_from_slice_get}
+use Rattle.std.proofs.lemmas.Option.{get_or_from_slice_get, slice_get-get_or, slice_get_within}
 use Rattle.std.proofs.lemmas.List.Sums.{get_or-le-sum_by}
 use Rattle.cat_program.specs.declared.headers.Event.{Event}
 use Rattle.cat_program.specs.Checked.{Checked, IsChecked}
@@ -13,29 +13,34 @@ use Rattle.event_arrivals.specs.Arrivals.{Lists}
 use Rattle.event_arrivals.specs.Spaced.{AreSpaced}
 use Rattle.cost_bounds.specs.BoundsValue.{BoundsValue}
 use Rattle.cost_bounds.specs.Greatest.{AreBounds}
-use Rattle.feasibility.specs.declared.choose.ChooseFault.{ChooseFault}
 use Rattle.feasibility.specs.declared.choose.ChooseFault.TheVariants as choose
 use Rattle.nv_memory.specs.Layout.{lines_of}
 use Rattle.demand_core.specs.declared.Load.{Load}
 use Rattle.demand_core.specs.declared.Numbers.{Numbers}
 use Rattle.demand_core.specs.Demand.{room_use}
 use Rattle.degradation.specs.declared.chosen.Chosen.{Chosen}
-use Rattle.degradation.specs.Choice.{supply_of, base_of, IsChoice, IsNoChoice, Suits}
+use Rattle.degradation.specs.declared.supply.Supply.{Supply}
+use Rattle.degradation.specs.Choice.{base_of, IsChoice, Suits}
+use Rattle.forecast_table.specs.declared.epoch.Epoch.{Epoch}
+use Rattle.forecast_table.specs.Epochs.{IsForecast}
+use Rattle.forecast_choice.specs.declared.rows.RowFault.{RowFault}
+use Rattle.forecast_choice.specs.declared.rows.RowFault.TheVariants as row
+use Rattle.forecast_choice.specs.Rows.{supply_in, IsFirstRefused, IsRowFault}
 use Rattle.degradation.specs.Placed.{IsLayoutOf}
 use Rattle.cn_scheduler.specs.declared.engine.Engine.{Engine}
 use Rattle.cn_scheduler.specs.EnginePoint.{IsFirst}
 use Rattle.cn_scheduler.specs.declared.plan.Plan.{Plan}
 use Rattle.cn_scheduler.specs.declared.plan.PlanRow.{PlanRow}
 use Rattle.cn_scheduler.specs.Belongs.{IsRowOf, IsLayoutOf as HasCounts}
-use Rattle.cn_runtime.specs.Planned.{deadlines_in, fault_of, row_of, IsChosenFor, IsPlanFor, IsPrepared, IsRefused, PlansAreSetUp}
+use Rattle.cn_runtime.specs.Planned.{deadlines_in, fault_of, plan_row, plan_rows, IsChosenFor, IsPlanFor, IsPrepared, IsRefused, PlansAreSetUp}
 use Rattle.lawful_timeline.specs.Working.{IsSetUp}
 
 -- what is kept back beside one job of each event, a checkpoint, a section and a wake is within what the store holds
-row_fits : (program : Checked) (b : BoundsValue) (device : Device) (lines : ℕ) (chosen : Chosen) → IsChoice program b device (supply_of device) lines chosen
-    → Suits program chosen → IsRowOf program (row_of chosen)
-row_fits program b device lines chosen choice suits =
+row_fits : (program : Checked) (b : BoundsValue) (device : Device) (supply : Supply) (lines : ℕ) (epoch : Epoch) (chosen : Chosen) → IsChoice program b device supply lines chosen
+    → Suits program chosen → IsRowOf program (plan_row epoch chosen)
+row_fits program b device supply lines epoch chosen choice suits =
     let v = choice.vector in
-    let base = base_of b device (supply_of device) in
+    let base = base_of b device supply in
     let room : room_use base v.loads v.window ≤ device.cap = choice.is.is.feasible.room in
     let kept : v.reserve ≡ _ = choice.is.is.reserve_is in
     let cap : device.cap ≤ 1000000 = device.cap_in_range in
@@ -60,33 +65,82 @@ row_fits program b device lines chosen choice suits =
 counts : (program : Checked) (device : Device) (l : Layout) → IsLayoutOf program device l → HasCounts program l
 counts program device l is = record { words = is.words; tasks = is.tasks; events = is.events }
 
-pub all_one : {X : Type 0} (P : X → Type 0) (x : X) → P x → All P (x ∷ [])
-all_one P x p = λ i d lt. subst (λ (n : ℕ). P (get_or (x ∷ []) n d)) (sym (none i lt)) p
-  where
-    none : (n : ℕ) → n < 1 → n ≡ 0
-    none n lt = omega arith
+-- ---- row by row
 
-pub set_up : (program : Checked) (device : Device) (arrivals : Lists) (b : BoundsValue) (lines : ℕ) (chosen : Chosen) (plan : Plan) → IsChecked program
-    → IsChoice program b device (supply_of device) lines chosen → Suits program chosen → IsPlanFor program device arrivals chosen plan
-    → length arrivals.timings ≡ length program.events → AreSpaced arrivals → IsSetUp program plan
-set_up program device arrivals b lines chosen plan checked choice suits is events spaced =
-    let row : IsRowOf program (row_of chosen) = row_fits program b device lines chosen choice suits in
+-- the parts of a row of the plan
+pub record Parts (forecast : List Epoch) (chosen : List Chosen) (place : ℕ) (row : PlanRow) : Type 0 where
+  pub epoch : Epoch
+  pub one : Chosen
+  pub epoch_is : slice_get forecast place ≡ Some epoch
+  pub one_is : slice_get chosen place ≡ Some one
+  pub row_is : plan_row epoch one ≡ row
+
+pub parts_at : (forecast : List Epoch) (chosen : List Chosen) (place : ℕ) (row : PlanRow) → slice_get (plan_rows forecast chosen) place ≡ Some row → Parts forecast chosen place row
+parts_at [] chosen place row is = absurd (cc)
+parts_at (e ∷ es) [] place row is = absurd (cc)
+parts_at (e ∷ es) (c ∷ cs) zero row is = record { epoch = e; one = c; epoch_is = refl; one_is = refl; row_is = cc }
+parts_at (e ∷ es) (c ∷ cs) (suc place) row is =
+    let more = parts_at es cs place row is in
+    record { epoch = more.epoch; one = more.one; epoch_is = more.epoch_is; one_is = more.one_is; row_is = more.row_is }
+
+-- what holds of each item holds of the one in a place
+pub at_place : {X : Type 0} (P : X → Type 0) (xs : List X) (place : ℕ) (x : X) → All P xs → slice_get xs place ≡ Some x → P x
+at_place P xs place x all is = subst P (get_or_from_slice_get xs place x x is) (all place x (slice_get_within xs place x is))
+
+-- what holds of each row's parts holds of all rows
+pub all_rows : (P : PlanRow → Type 0) (forecast : List Epoch) (chosen : List Chosen)
+    → ((place : ℕ) (epoch : Epoch) (one : Chosen) → slice_get forecast place ≡ Some epoch → slice_get chosen place ≡ Some one → P (plan_row epoch one)) → All P (plan_rows forecast chosen)
+all_rows P forecast chosen each place d within =
+    let parts = parts_at forecast chosen place (get_or (plan_rows forecast chosen) place d) (slice_get-get_or (plan_rows forecast chosen) place d within) in
+    subst P parts.row_is (each place parts.epoch parts.one parts.epoch_is parts.one_is)
+
+-- some row is in force from the first tick on
+first_row : (forecast : List Epoch) (chosen : List Chosen) → IsForecast forecast → length chosen ≡ length forecast
+    → (row : PlanRow) × (slice_get (plan_rows forecast chosen) 0 ≡ Some row) × (row.from ≡ 0)
+first_row [] chosen is count = absurd (omega (arith, is.some))
+first_row (e ∷ es) [] is count = absurd (omega (arith, count))
+first_row (e ∷ es) (c ∷ cs) is count = (plan_row e c, refl, is.first e)
+
+pub set_up : (program : Checked) (device : Device) (arrivals : Lists) (forecast : List Epoch) (l : Layout) (chosen : List Chosen) (plan : Plan) → IsChecked program
+    → length arrivals.timings ≡ length program.events → AreSpaced arrivals → IsForecast forecast → IsChosenFor program device l forecast chosen
+    → IsPlanFor program device arrivals forecast chosen plan → IsSetUp program plan
+set_up program device arrivals forecast l chosen plan checked events spaced sound is planned =
+    let fits : All (IsRowOf program) (plan_rows forecast chosen) =
+    all_rows (IsRowOf program) forecast chosen (λ place epoch one epoch_is one_is.
+    row_fits program is.bounds device (supply_in epoch) (lines_of l) epoch one (is.choices.each place epoch one epoch_is one_is)
+    (at_place (Suits program) chosen place one is.suit one_is)) in
+    let first = first_row forecast chosen sound is.choices.count in
     record {
       checked = checked;
-      code_is = is.code_is;
+      code_is = planned.code_is;
       plan_is = record {
-        layout = counts program device plan.layout is.layout_is;
-        first = (row_of chosen, ap (λ (rows : List PlanRow). slice_get rows 0) is.rows_are, refl);
-        rows = subst (λ (rows : List PlanRow). All (IsRowOf program) rows) (sym is.rows_are) (all_one (IsRowOf program) (row_of chosen) row);
-        queue = ap (λ (l : Lists). length l.timings) is.arrivals_are ∙ events;
-        deadlines = is.deadlines_are;
+        layout = counts program device plan.layout planned.layout_is;
+        first = (first.0, ap (λ (rows : List PlanRow). slice_get rows 0) planned.rows_are ∙ first.1, first.2);
+        rows = subst (λ (rows : List PlanRow). All (IsRowOf program) rows) (sym planned.rows_are) fits;
+        queue = ap (λ (ls : Lists). length ls.timings) planned.arrivals_are ∙ events;
+        deadlines = planned.deadlines_are;
       };
-      spaced = subst (λ (l : Lists). AreSpaced l) (sym is.arrivals_are) spaced;
+      spaced = subst (λ (ls : Lists). AreSpaced ls) (sym planned.arrivals_are) spaced;
     }
 
 pub are_set_up : PlansAreSetUp
-are_set_up program device arrivals l chosen plan checked events spaced is planned =
-    set_up program device arrivals is.bounds (lines_of l) chosen plan checked is.choice is.suits planned events spaced
+are_set_up program device arrivals forecast l chosen plan checked events spaced sound is planned =
+    set_up program device arrivals forecast l chosen plan checked events spaced sound is planned
+
+-- ---- rows, one after the other
+
+drop_at : {X : Type 0} (xs : List X) (i : ℕ) (x : X) → slice_get xs i ≡ Some x → drop i xs ≡ x ∷ drop (i + 1) xs
+drop_at xs i x is = drop_more xs i x (slice_get_within xs i x is) ∙ ap (λ y. y ∷ drop (i + 1) xs) (get_or_from_slice_get xs i x x is)
+
+pub rows-more : (forecast : List Epoch) (chosen : List Chosen) (found : List PlanRow) (i : ℕ) (e : Epoch) (c : Chosen) → slice_get forecast i ≡ Some e → slice_get chosen i ≡ Some c
+    → found ++ plan_rows (drop i forecast) (drop i chosen) ≡ (found ++ plan_row e c ∷ []) ++ plan_rows (drop (i + 1) forecast) (drop (i + 1) chosen)
+rows-more forecast chosen found i e c e_is c_is =
+    let es = drop_at forecast i e e_is in
+    let cs = drop_at chosen i c c_is in
+    (λ k. found ++ plan_rows (es k) (cs k)) ∙ sym (append_assoc found (plan_row e c ∷ []) (plan_rows (drop (i + 1) forecast) (drop (i + 1) chosen)))
+
+pub rows-end : (forecast : List Epoch) (chosen : List Chosen) (found : List PlanRow) (i : ℕ) → length forecast ≤ i → found ++ plan_rows (drop i forecast) (drop i chosen) ≡ found ++ []
+rows-end forecast chosen found i past = ap (λ es. found ++ plan_rows es (drop i chosen)) (drop_all i forecast past)
 
 -- ---- deadlines, one after the other
 
@@ -108,26 +162,39 @@ each_short (h ∷ hs) [] each event = absurd each
 
 -- ---- no choice
 
-pub refused : (p : Checked) (d : Device) (l : Layout) (lines : ℕ) (b : BoundsValue) (fault : ChooseFault) → IsLayoutOf p d l → lines ≡ lines_of l → AreBounds p d lines b
-    → IsNoChoice p b d (supply_of d) fault → IsRefused p d (fault_of fault)
-refused p d l lines b (choose.WindowTooLong spacing) layout same bounds none =
-    record { layout = l; is_layout = layout; bounds = b; are_bounds = subst (λ n. AreBounds p d n b) same bounds; none = none }
-refused p d l lines b (choose.Rejected verdict) layout same bounds none =
-    record { layout = l; is_layout = layout; bounds = b; are_bounds = subst (λ n. AreBounds p d n b) same bounds; none = none }
-refused p d l lines b choose.NoMemory layout same bounds none = tt
+pub refused : (p : Checked) (d : Device) (forecast : List Epoch) (l : Layout) (lines : ℕ) (b : BoundsValue) (fault : RowFault) → IsLayoutOf p d l → lines ≡ lines_of l → AreBounds p d lines b
+    → IsRowFault p b d lines forecast fault → IsRefused p d forecast (fault_of fault)
+refused p d forecast l lines b (row.WindowTooLong number spacing) layout same bounds none =
+    record {
+      layout = l;
+      is_layout = layout;
+      bounds = b;
+      are_bounds = subst (λ n. AreBounds p d n b) same bounds;
+      refused = subst (λ n. IsFirstRefused p b d n forecast number (choose.WindowTooLong spacing)) same none;
+    }
+refused p d forecast l lines b (row.Rejected number verdict) layout same bounds none =
+    record {
+      layout = l;
+      is_layout = layout;
+      bounds = b;
+      are_bounds = subst (λ n. AreBounds p d n b) same bounds;
+      refused = subst (λ n. IsFirstRefused p b d n forecast number (choose.Rejected verdict)) same none;
+    }
+refused p d forecast l lines b row.NoMemory layout same bounds none = tt
 
 -- ---- all of it
 
-pub prepared : (program : Checked) (device : Device) (arrivals : Lists) (l : Layout) (chosen : Chosen) (plan : Plan) (engine : Engine) → IsChecked program
-    → length arrivals.timings ≡ length program.events → AreSpaced arrivals → IsFirst program l engine → IsChosenFor program device l chosen
-    → IsPlanFor program device arrivals chosen plan → plan.layout ≡ l
-    → IsPrepared program device arrivals (record { program = program; device = device; chosen = chosen; plan = plan; engine = engine })
-prepared program device arrivals l chosen plan engine checked events spaced first is planned same =
+pub prepared : (program : Checked) (device : Device) (arrivals : Lists) (forecast : List Epoch) (l : Layout) (chosen : List Chosen) (plan : Plan) (engine : Engine) → IsChecked program
+    → length arrivals.timings ≡ length program.events → AreSpaced arrivals → IsForecast forecast → IsFirst program l engine → IsChosenFor program device l forecast chosen
+    → IsPlanFor program device arrivals forecast chosen plan → plan.layout ≡ l
+    → IsPrepared program device arrivals forecast (record { program = program; device = device; forecast = forecast; chosen = chosen; plan = plan; engine = engine })
+prepared program device arrivals forecast l chosen plan engine checked events spaced sound first is planned same =
     record {
       program_is = refl;
       device_is = refl;
-      chosen = subst (λ (m : Layout). IsChosenFor program device m chosen) (sym same) is;
+      forecast_is = refl;
+      chosen = subst (λ (m : Layout). IsChosenFor program device m forecast chosen) (sym same) is;
       plan = planned;
-      set_up = set_up program device arrivals is.bounds (lines_of l) chosen plan checked is.choice is.suits planned events spaced;
+      set_up = set_up program device arrivals forecast l chosen plan checked events spaced sound is planned;
       first = subst (λ (m : Layout). IsFirst program m engine) (sym same) first;
     }

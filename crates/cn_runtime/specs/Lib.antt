@@ -1,3 +1,4 @@
 pub mod Planned
+pub mod Steady
 pub mod OnTime
 pub mod Resumed

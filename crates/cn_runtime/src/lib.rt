@@ -9,7 +9,7 @@ mod refused;
 mod replaying;
 mod resumed;
 
-pub use plans::{plans_are_planned, plans_are_set_up};
+pub use plans::{plans_are_planned, plans_are_set_up, steady_law};
 pub use prepared::{Prepared, replay};
 pub use preparing::prepare;
 pub use refused::PrepareFault;

@@ -8,8 +8,10 @@ ghost use Rattle.cn_runtime.specs.OnTime.{IsOf, IsReplayedOnTime};
 
 use crate::replaying::replay_by;
 use cat_program::Program;
+use cn_base::List;
 use cn_scheduler::{End, Engine, Plan};
 use degradation::Chosen;
+use forecast_table::Forecast;
 use lawful_timeline::starts_belong;
 use nv_memory::{Board, Device};
 use timely_commits::fresh_runs_are_on_time;
@@ -19,7 +21,9 @@ use timely_commits::fresh_runs_are_on_time;
 pub struct Prepared {
     pub program: Program,
     pub device: Device,
-    pub chosen: Chosen,
+    pub forecast: Forecast,
+    /// What was chosen for each row of the forecast.
+    pub chosen: List<Chosen>,
     pub plan: Plan,
     pub engine: Engine,
 }

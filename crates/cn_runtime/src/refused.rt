@@ -1,13 +1,14 @@
 use cn_base::NoMemory;
-use feasibility::{ChooseFault, Verdict};
+use feasibility::Verdict;
+use forecast_choice::RowFault;
 
-/// Why nothing was prepared.
+/// Why nothing was prepared. Rows of a forecast are counted from 1.
 #[derive(Debug, PartialEq, Eq, Drop)]
 pub enum PrepareFault {
-    /// With this spacing demand and supply repeat only after too long.
-    WindowTooLong(u32),
-    /// The events are feasible in no versions; the verdict is that on the last ones.
-    Rejected(Verdict),
+    /// Demand and the row's supply repeat only after more than 1,000,000 ticks; with this spacing the window exceeds them.
+    WindowTooLong { row: u32, spacing: u32 },
+    /// With the row's supply no versions are feasible; the verdict is that on the last ones.
+    Rejected { row: u32, verdict: Verdict },
     NoMemory,
 }
 
@@ -22,17 +23,20 @@ impl From<NoMemory> for PrepareFault {
     }
 }
 
-impl From<ChooseFault> for PrepareFault {
+impl From<RowFault> for PrepareFault {
     ghost use Rattle.std.specs.Prelude.{◌≡◌};
     ghost use Rattle.cn_runtime.specs.Planned.{fault_of};
 
     ghost from_gives = { λ fault e. e ≡ fault_of fault };
 
-    fn from(fault: ChooseFault) -> PrepareFault {
+    fn from(fault: RowFault) -> PrepareFault {
         match fault {
-            ChooseFault::WindowTooLong(spacing) => PrepareFault::WindowTooLong(spacing),
-            ChooseFault::Rejected(verdict) => PrepareFault::Rejected(verdict),
-            ChooseFault::NoMemory => PrepareFault::NoMemory,
+            RowFault::WindowTooLong { row, spacing } => PrepareFault::WindowTooLong {
+                row,
+                spacing,
+            },
+            RowFault::Rejected { row, verdict } => PrepareFault::Rejected { row, verdict },
+            RowFault::NoMemory => PrepareFault::NoMemory,
         }
     }
 }

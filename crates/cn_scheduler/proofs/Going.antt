@@ -5,9 +5,10 @@ use Rattle.std.specs.Int.{w32}
 use Rattle.std.proofs.lemmas.List.Elements.{All-nil, All-cons, All-append}
 use Rattle.std.specs.Option.{option_map_or}
 use Rattle.cat_program.specs.Meaning.{Output}
-use Rattle.cat_program.specs.declared.syntax.Class.{Class as Kind}
+use Rattle.nv_memory.specs.declared.device.Class.{Class}
 use Rattle.cat_machine.specs.declared.instr.Instr.{Instr}
 use Rattle.cat_machine.specs.declared.instr.Instr.TheVariants as i
+use Rattle.cat_machine.specs.declared.instr.Fetched.{Fetched}
 use Rattle.cat_machine.specs.declared.instr.Mode.{Mode}
 use Rattle.cat_machine.specs.declared.instr.Mode.TheVariants.{Task, Handler}
 use Rattle.cat_machine.specs.declared.instr.Did.{Did}
@@ -15,17 +16,16 @@ use Rattle.cat_machine.specs.declared.instr.Did.TheVariants as did
 use Rattle.cat_machine.specs.ClassOf.{class_of}
 use Rattle.cat_machine.specs.CodeValue.{CodeValue}
 use Rattle.cat_machine.specs.Held.{Held}
-use Rattle.cat_machine.specs.Machine.{Stepping, Ended', next_of, fetched, step_at, step_of, goes_on, until, prepended, after_step, follow, Unacted, Begun, Further}
+use Rattle.cat_machine.specs.Machine.{Stepping, Ended', next_of, IsNext, fetched, step_at, step_of, goes_on, until, prepended, after_step, follow, Unacted, Begun, Further}
 use Rattle.cat_machine.specs.Ends.{PutsBy, RunsEnd}
 use Rattle.cat_machine.specs.Fits.{ReadyFor}
-use Rattle.std.proofs.lemmas.Option.{slice_get_within, slice_get-get_or}
 use Rattle.std.proofs.lemmas.Bool.{cases_lt}
 use Rattle.nv_memory.specs.declared.device.Class.TheVariants.{Basic}
 use Rattle.nv_memory.specs.Board.{State}
 use Rattle.cn_scheduler.specs.declared.plan.Plan.{Plan}
 use Rattle.cn_scheduler.specs.declared.engine.Chunk.{Chunk}
 use Rattle.cn_scheduler.specs.declared.engine.Chunk.TheVariants.{Ended, Dropped, Lost, Over, Full}
-use Rattle.cn_scheduler.specs.Paths.{Act, board_class, is_out, puts_out, own_out, outs_after, acts_of, last_outs, run_outs, run_acts}
+use Rattle.cn_scheduler.specs.Paths.{Act, is_out, puts_out, own_out, outs_after, acts_of, last_outs, run_outs, run_acts}
 use Rattle.cn_scheduler.specs.Asked.{Ask, listed, outs_in, ask_with, path_asks, Limits, IsAbove, HasRoom, Stops, Goes, Asked}
 use Rattle.cn_scheduler.specs.Chunks.{AreFit}
 use Rattle.cn_scheduler.specs.Steps.{out_of, AskedOnce, limits_of, PathLeaves}
@@ -76,8 +76,8 @@ task_went (did.Emitted c v) outs e = cc
 task_went did.Acted outs e = cc
 task_went did.Ended outs e = cc
 
-abbrev act : ℕ → Kind → Option Output → Act
-act pc kind out = record { pc = pc; class = board_class kind; out = out }
+abbrev act : ℕ → Class → Option Output → Act
+act pc class out = record { pc = pc; class = class; out = out }
 
 -- ---- one instruction of a run
 
@@ -93,8 +93,8 @@ module _ (mode : Mode) (code : CodeValue) (h : Held) (n pc : ℕ) (instr : Instr
   first : (path : List ℕ) (outs : List Output) → acts_of code (pc ∷ path) (listed (out_of s.did) ++ outs) ≡ act pc (class_of instr) (out_of s.did) ∷ acts_of code path outs
   first path outs =
       let f = fronts instr s.did outs puts in
-      ap (λ (o : Option Instr). record { pc = pc; class = option_map_or (λ x. board_class (class_of x)) o Basic; out = own_out (option_map_or is_out o false) (listed (out_of s.did) ++ outs) } ∷ acts_of code path (outs_after (option_map_or is_out o false) (listed (out_of s.did) ++ outs))) at
-      ∙ ap (λ (o : Option Output). record { pc = pc; class = board_class (class_of instr); out = o } ∷ acts_of code path (outs_after (is_out instr) (listed (out_of s.did) ++ outs))) f.own
+      ap (λ (o : Option Instr). record { pc = pc; class = option_map_or class_of o Basic; out = own_out (option_map_or is_out o false) (listed (out_of s.did) ++ outs) } ∷ acts_of code path (outs_after (option_map_or is_out o false) (listed (out_of s.did) ++ outs))) at
+      ∙ ap (λ (o : Option Output). record { pc = pc; class = class_of instr; out = o } ∷ acts_of code path (outs_after (is_out instr) (listed (out_of s.did) ++ outs))) f.own
       ∙ ap (λ (xs : List Output). act pc (class_of instr) (out_of s.did) ∷ acts_of code path xs) f.behind
 
   -- the run ends with it
@@ -236,7 +236,7 @@ module _ (plan : Plan) (mode : Mode) (start : Held) (first : ℕ) (old : State) 
   ends_now = ap (λ (n : ℕ). until n mode plan.code held) (sym (less_left turn less)) ∙ w.ends
 
   abbrev asking : Ask
-  asking = ask_with plan.layout len pc (board_class (class_of instr)) (out_of s.did)
+  asking = ask_with plan.layout len pc (class_of instr) (out_of s.did)
 
   abbrev later : List Act → List Ask
   later acts = asking ∷ path_asks plan.layout (len + length (listed (out_of s.did))) acts
@@ -295,15 +295,15 @@ pub ready_still : (mode : Mode) (code : CodeValue) (start now : Held) → ReadyF
 ready_still Task code start now ready same next = (same ∙ ready.0, next)
 ready_still Handler code start now ready same next = (ready.0, same ∙ ready.1)
 
-pub instr_there : (mode : Mode) (code : CodeValue) (held : Held) (s : Stepping) (pc : ℕ) → step_of mode code held ≡ Some s → next_of code held ≡ Some pc → pc < length code.instrs
-instr_there mode code held s pc step next = by_instr (slice_get code.instrs pc) refl
+pub next_there : (mode : Mode) (code : CodeValue) (held : Held) (s : Stepping) → step_of mode code held ≡ Some s → (next : Fetched) × IsNext code held next
+next_there mode code held s step = by_instr (slice_get code.instrs place.0) refl
   where
-    found : fetched mode pc held (slice_get code.instrs pc) ≡ Some s
-    found = ap (step_at mode code held) (sym next) ∙ step
+    place : (pc : ℕ) × (next_of code held ≡ Some pc)
+    place = next_place mode code held s step
 
-    by_instr : (o : Option Instr) → slice_get code.instrs pc ≡ o → pc < length code.instrs
-    by_instr None e = let x = ap (fetched mode pc held) (sym e) ∙ found in cc
-    by_instr (Some instr) e = slice_get_within code.instrs pc instr e
+    by_instr : (o : Option Instr) → slice_get code.instrs place.0 ≡ o → (next : Fetched) × IsNext code held next
+    by_instr None e = let x = ap (fetched mode place.0 held) (sym e) ∙ ap (step_at mode code held) (sym place.1) ∙ step in cc
+    by_instr (Some instr) e = (record { pc = place.0; instr = instr }, (place.1, e))
 
 pub stops_of : (l : Limits) (size : ℕ) (old : State) (a : Ask) (o : Chunk) (new : State) → o ≢ Ended → l.size ≡ size → IsAbove l old → AskedOnce size old a o new → Stops l old a o new
 stops_of l size old a Ended new not same above asked = absurd (not refl)
@@ -347,9 +347,6 @@ pub some_of : {X : Type 0} (o : Option X) → (o ≡ None → ⊥) → (x : X) �
 some_of None h = absurd (h refl)
 some_of (Some x) h = (x, refl)
 
-slice_get_past_none : (xs : List Instr) (k : ℕ) → slice_get xs k ≡ None → length xs ≤ k
-slice_get_past_none xs k none = elim (cases_lt k (length xs)) [ inl less ↦ absurd (let found = slice_get-get_or xs k i.End less in let both = sym none ∙ found in cc) | inr le ↦ le ]
-
 -- the outputs of the instructions are those of the run
 pub outs_are : RunsEnd → (mode : Mode) (code : CodeValue) (n : ℕ) (h : Held) (run : Ended') → until n mode code h ≡ Some run → outs_in (run_acts code run) ≡ run_outs run
 outs_are runs mode code zero h run ends = let none = sym (until_zero mode code h) ∙ ends in cc
@@ -359,19 +356,16 @@ outs_are runs mode code (suc n) h run ends = by_step (λ k r e. outs_are runs mo
     by_step again None e = let x = ap (after_step mode (until n mode code) (unwrap_or (next_of code h) 0)) (sym e) ∙ sym (until_suc n mode code h) ∙ ends in cc
     by_step again (Some s) e = by_on (goes_on mode s.did) refl
       where
-        place : (pc : ℕ) × (next_of code h ≡ Some pc)
-        place = next_place mode code h s e
+        found : (next : Fetched) × IsNext code h next
+        found = next_there mode code h s e
 
-        instr : (i : Instr) × (slice_get code.instrs place.0 ≡ Some i)
-        instr = some_of (slice_get code.instrs place.0) (λ none. let below = instr_there mode code h s place.0 e place.1 in let past = slice_get_past_none code.instrs place.0 none in omega (arith, below, past))
-
-        puts : PutsBy instr.0 s.did
-        puts = runs.puts mode code h place.0 instr.0 s place.1 instr.1 e
+        puts : PutsBy found.0.instr s.did
+        puts = runs.puts mode code h found.0.pc found.0.instr s found.1.0 found.1.1 e
 
         by_on : (o : Option (List Output)) → goes_on mode s.did ≡ o → outs_in (run_acts code run) ≡ run_outs run
         by_on None over =
-            let m = last_step mode code h n place.0 instr.0 s run place.1 instr.1 e puts ends over in
+            let m = last_step mode code h n found.0.pc found.0.instr s run found.1.0 found.1.1 e puts ends over in
             ap outs_in m.acts ∙ append-nil (listed (out_of s.did)) ∙ sym m.outs
         by_on (Some outs) on =
-            let m = one_step mode code h n place.0 instr.0 s run place.1 instr.1 e puts ends outs on in
+            let m = one_step mode code h n found.0.pc found.0.instr s run found.1.0 found.1.1 e puts ends outs on in
             ap outs_in m.acts ∙ ap (λ (xs : List Output). listed (out_of s.did) ++ xs) (again s.after m.rest m.ends_later) ∙ sym m.outs

@@ -192,7 +192,7 @@ module _ (l : Layout) (program : Checked) (limits : Limits) (size : limits.size 
       let d = done_record l program limits size safe last at entry by.Write old r.0 (roomy l program limits size safe last at r.1.room) long r.1.done in
       subst (λ (i : List ℕ). IsSame l program limits size safe last first old.image i v) (sym (ap (λ (t : State). t.image) r.2)) (changed l program limits size safe last first at old.image r.0.image v le up is d.0)
 
-  record_hold : (entries : List LogEntry) → length entries ≡ at → IsOf program entry → EntryFits entry → Asked limits old (recording l at entry by.Write ∷ []) Ended new
+  record_hold : (entries : List LogEntry) → length entries ≡ at → IsOf program entry → EntryFits l entry → Asked limits old (recording l at entry by.Write ∷ []) Ended new
       → Hold l program limits size safe last old.image entries → Hold l program limits size safe last new.image (entries ++ entry ∷ [])
   record_hold entries many of fits (inl s) h = absurd s
   record_hold entries many of fits (inr r) h =
@@ -280,7 +280,7 @@ module _ (plan : Plan) (program : Checked) (e : Engine) (old : State) (due : Due
   outs_many : length outs ≡ place
   outs_many = length-append b.ready.entries (map entry_of (run_outs run)) ∙ ap₂ (λ (x y : ℕ). x + y) b.ready.recorded.many (length-map (run_outs run) entry_of)
 
-  pub job_hold : (new : State) → All Fit (run_outs run) → EntryFits entry → Asked limits old (job_asks plan (point_of e old) due run) Ended new → Hold ly program limits refl safe last new.image (outs ++ entry ∷ [])
+  pub job_hold : (new : State) → All Fit (run_outs run) → EntryFits ly entry → Asked limits old (job_asks plan (point_of e old) due run) Ended new → Hold ly program limits refl safe last new.image (outs ++ entry ∷ [])
   job_hold new fit fits a = elim (asked_split limits (wake_asks old.on ++ asks) (recording ly place entry by.Write ∷ []) Ended old new a) [
     | inl stop ↦ absurd (stop.0 refl)
     | inr on ↦ elim (asked_split limits (wake_asks old.on) asks Ended old on.0 on.1) [
@@ -297,7 +297,7 @@ module _ (plan : Plan) (program : Checked) (e : Engine) (old : State) (due : Due
   ]
 
   -- what a commit of it commits
-  pub job_ready : (mid : State) → All Fit (run_outs run) → EntryFits entry → Asked limits old (job_asks plan (point_of e old) due run) Ended mid → work.len + length (run_outs run) + 1 ≤ ly.log → IsReady program plan mid.image (after_job work due run)
+  pub job_ready : (mid : State) → All Fit (run_outs run) → EntryFits ly entry → Asked limits old (job_asks plan (point_of e old) due run) Ended mid → work.len + length (run_outs run) + 1 ≤ ly.log → IsReady program plan mid.image (after_job work due run)
   job_ready mid fit fits a few = record {
     current = idle_after.state.current;
     entries = outs ++ entry ∷ [];

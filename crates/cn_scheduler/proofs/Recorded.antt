@@ -106,7 +106,7 @@ module _ (l : Layout) (program : Checked) (limits : Limits) (size : limits.size 
   at_end (y ∷ xs) x zero e is = inl (is, omega arith)
   at_end (y ∷ xs) x (suc k) e is = elim (at_end xs x k e is) [ inl a ↦ inl (a.0, omega (arith, a.1)) | inr b ↦ inr (omega (arith, b.0), b.1) ]
 
-  pub hold_more : (at : ℕ) (entry : LogEntry) (entries : List LogEntry) (old new : List ℕ) → length entries ≡ at → ChangesRecord l at old new → record_bytes l at new ≡ record_of l entry → IsOf program entry → EntryFits entry
+  pub hold_more : (at : ℕ) (entry : LogEntry) (entries : List LogEntry) (old new : List ℕ) → length entries ≡ at → ChangesRecord l at old new → record_bytes l at new ≡ record_of l entry → IsOf program entry → EntryFits l entry
       → Hold old entries → Hold new (entries ++ entry ∷ [])
   hold_more at entry entries old new many c bytes of fits h k e is = elim (at_end entries entry k e is) [
     | inl a ↦ subst (λ (b : List ℕ). IsSpelled l program b e) (sym (c.others k (λ same. omega (arith, a.1, many, same)))) (h k e a.0)

@@ -109,7 +109,7 @@ job_asks plan p due run =
 -- these and then the commit, or a stop before it
 pub data JobAsks (plan : Plan) (p : Point) (due : Due) (run : Ended') (outcome : Chunk) (new : State) : Type 0 where
   Early : outcome ≢ Ended → Asked (no_floor plan) p.board (job_asks plan p due run) outcome new → JobAsks plan p due run outcome new
-  Late : (mid : State) → Asked (no_floor plan) p.board (job_asks plan p due run) Ended mid → AreFit (run_outs run) → EntryFits (ran_of plan p due)
+  Late : (mid : State) → Asked (no_floor plan) p.board (job_asks plan p due run) Ended mid → AreFit (run_outs run) → EntryFits plan.layout (ran_of plan p due)
       → FitsSlot plan.layout (after_job p.work due run) → Commits plan (after_job p.work due run) mid outcome new → JobAsks plan p due run outcome new
 
 pub record JobDoes (plan : Plan) (p : Point) (due : Due) (outcome : Chunk) (q : Point) : Type 0 where

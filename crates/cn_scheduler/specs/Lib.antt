@@ -10,3 +10,4 @@ pub mod Steps
 pub mod Warrants
 pub mod Parts
 pub mod Lawful
+pub mod Floor

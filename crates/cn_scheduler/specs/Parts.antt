@@ -50,7 +50,7 @@ pub record Serves (plan : Plan) (e : Engine) (old : State) (due : Due) (outcome 
   pub is_handler : IsHandler plan (work_in e) due run
   pub asked : Asked (no_floor plan) old (job_asks plan (point_of e old) due run) outcome new
   pub ended : outcome ≡ Ended → PathEnds run (e.slot.len + 1) e'.working e'.slot.len new
-  pub entry : EntryFits (ran_of plan (point_of e old) due)
+  pub entry : EntryFits plan.layout (ran_of plan (point_of e old) due)
   pub slot : e'.slot ≡ record e.slot { len = e'.slot.len }
 
 -- between these ticks no arrival comes that is not done, and one row is in force

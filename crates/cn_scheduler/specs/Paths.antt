@@ -1,8 +1,6 @@
 -- The instructions of a section or a handler in their order.
 use Rattle.std.specs.Prelude.{◌≡◌, ℕ, ℤ, Bool, true, false, List, [], ◌∷◌, ◌++◌, Option, Some, None, slice_get}
 use Rattle.std.specs.Option.{option_map_or}
-use Rattle.cat_program.specs.declared.syntax.Class.{Class as Kind}
-use Rattle.cat_program.specs.declared.syntax.Class.TheVariants as kind
 use Rattle.cat_program.specs.Meaning.{Output}
 use Rattle.cat_machine.specs.declared.instr.Instr.{Instr}
 use Rattle.cat_machine.specs.declared.instr.Instr.TheVariants as i
@@ -13,20 +11,14 @@ use Rattle.cat_machine.specs.ClassOf.{class_of}
 use Rattle.cat_machine.specs.CodeValue.{CodeValue, EntryAt}
 use Rattle.cat_machine.specs.Machine.{Ended', until, entered}
 use Rattle.nv_memory.specs.declared.device.Class.{Class}
-use Rattle.nv_memory.specs.declared.device.Class.TheVariants.{Basic, Memory, Out}
+use Rattle.nv_memory.specs.declared.device.Class.TheVariants.{Basic}
 use Rattle.event_queue.specs.declared.queue.Due.{Due}
 use Rattle.cn_scheduler.specs.declared.plan.Plan.{Plan}
 use Rattle.cn_scheduler.specs.InForce.{version_of}
 use Rattle.cn_scheduler.specs.Point.{Work, held_of}
 
--- the board's class of an instruction
-abbrev pub board_class : Kind → Class
-board_class kind.Basic = Basic
-board_class kind.Memory = Memory
-board_class kind.Out = Out
-
 abbrev pub class_at : CodeValue → ℕ → Class
-class_at code pc = option_map_or (λ instr. board_class (class_of instr)) (slice_get code.instrs pc) Basic
+class_at code pc = option_map_or class_of (slice_get code.instrs pc) Basic
 
 -- an instruction of a path: its place and class, and what it puts out
 pub record Act : Type 0 where

@@ -7,6 +7,7 @@ ghost use Rattle.cn_scheduler.specs.declared.plan.Plan.{Plan as Planned};
 ghost use Rattle.cn_scheduler.specs.Asked.{Asked};
 ghost use Rattle.cn_scheduler.specs.Chunks.{no_floor, wake_asks};
 ghost use Rattle.cn_scheduler.specs.Steps.{chunk_of};
+ghost use Rattle.nv_memory.specs.declared.layout.Layout.{Layout as Places};
 ghost use Rattle.nv_log.specs.Record.{EntryFits};
 
 use crate::choice::Choice;
@@ -33,10 +34,11 @@ fn wake_up<B: Board>(board: &mut B) -> Answer
     board.wake()
 }
 
-// The record of a job that starts at a tick, when the tasks have made so many steps.
+// The record of a job that starts at a tick, when the tasks have made so many steps. A record of either format holds it.
 fn ran(event: u8, version: u8, steps: u32, start: u32, index: u32) -> LogEntry
+    requires low { start ≤ 4000000 }
     ensures value { result ≡ LogEntry.Ran event version steps start index }
-    ensures fits { EntryFits result }
+    ensures fits { (l : Places) → EntryFits l result }
 {
     LogEntry::Ran {
         event,

@@ -1,19 +1,21 @@
 //! Instructions in turn.
 
-ghost use Rattle.std.specs.Prelude.{◌≡◌, ◌+◌, ◌<◌, ◌≤◌, ◌↔◌, length, ℕ, IsTrue, true, Some, None, slice_get, FitsSigned, IfSome};
+ghost use Rattle.std.specs.Prelude.{◌≡◌, ◌+◌, ◌<◌, ◌≤◌, ◌↔◌, length, ℕ, IsTrue, true, Some, None, FitsSigned, IfSome};
 ghost use Rattle.std.specs.Int.{w32};
 ghost use Rattle.cat_program.specs.Checked.{Checked};
 ghost use Rattle.cat_machine.specs.Fits.{Fits, ReadyFor};
-ghost use Rattle.cat_machine.specs.Machine.{Ended', next_of, until, goes_on};
+ghost use Rattle.cat_machine.specs.declared.instr.Fetched.{Fetched as Next};
+ghost use Rattle.cat_machine.specs.Machine.{Ended', IsNext, until, goes_on};
 ghost use Rattle.nv_memory.specs.Layout.{size_of};
+ghost use Rattle.nv_log.specs.Record.{EntryFits};
 ghost use Rattle.cn_scheduler.specs.Asked.{listed, ask_with, recording};
-ghost use Rattle.cn_scheduler.specs.Paths.{board_class};
 ghost use Rattle.cn_scheduler.specs.Steps.{chunk_of, out_of, AskedOnce, limits_of, PathLeaves};
+ghost use Rattle.cn_scheduler.specs.Floor.{HoldsFloor};
 
 use crate::engine::Chunk;
 use crate::plan::Plan;
-use cat_machine::{Code, Did, Mode, Working, class, next, runs_end, step};
-use cat_program::{Class as Kind, LogEntry};
+use cat_machine::{Code, Did, Fetched, Mode, Working, class, fetch, runs_end, step_fetched};
+use cat_program::LogEntry;
 use nv_log::{By, Put, append};
 use nv_memory::{Answer, Board, Class};
 
@@ -31,16 +33,6 @@ pub(crate) fn chunk_of(answer: Answer) -> Chunk
     }
 }
 
-fn board_class(kind: Kind) -> Class
-    ensures { result ≡ board_class kind }
-{
-    match kind {
-        Kind::Basic => Class::Basic,
-        Kind::Memory => Class::Memory,
-        Kind::Out => Class::Out,
-    }
-}
-
 /// Writes an entry behind the first `len` records, which are one more then.
 pub(crate) fn put<B: Board>(
     plan: &Plan,
@@ -52,6 +44,7 @@ pub(crate) fn put<B: Board>(
     requires on { (B.state board.old).on ≡ true }
     requires image { size_of plan.now.layout ≤ length (B.state board.old).image }
     requires len { len.old ≤ plan.now.layout.log }
+    requires fits { EntryFits plan.now.layout entry.now }
     ensures asked { AskedOnce plan.now.layout.log (B.state board.old) (recording plan.now.layout len.old entry.now by) result (B.state board.new) }
     ensures len { result ≡ Chunk.Ended → len.new ≡ len.old + 1 }
     ensures few { len.new ≤ plan.now.layout.log }
@@ -70,12 +63,43 @@ pub(crate) fn put<B: Board>(
     }
 }
 
-// Asks for one instruction, whose output is the record behind the first `len`.
-fn ask<B: Board>(plan: &Plan, board: &mut B, len: &mut u32, pc: u32, kind: Kind, did: Did) -> Chunk
+// Writes an output as `put` does. It is compiled by itself, so that a path has room for an entry only where it puts out.
+#[inline(never)]
+fn put_out<B: Board>(
+    plan: &Plan,
+    board: &mut B,
+    len: &mut u32,
+    pc: u32,
+    channel: u8,
+    value: i32,
+) -> Chunk
     requires on { (B.state board.old).on ≡ true }
     requires image { size_of plan.now.layout ≤ length (B.state board.old).image }
     requires len { len.old ≤ plan.now.layout.log }
-    ensures asked { AskedOnce plan.now.layout.log (B.state board.old) (ask_with plan.now.layout len.old pc (board_class kind) (out_of did)) result (B.state board.new) }
+    ensures asked { AskedOnce plan.now.layout.log (B.state board.old) (recording plan.now.layout len.old (LogEntry.Out channel value) (By.Instr pc)) result (B.state board.new) }
+    ensures len { result ≡ Chunk.Ended → len.new ≡ len.old + 1 }
+    ensures few { len.new ≤ plan.now.layout.log }
+    ensures on { result ≡ Chunk.Ended → (B.state board.new).on ≡ true }
+    ensures size { length (B.state board.new).image ≡ length (B.state board.old).image }
+    ensures origin { B.origin board.new ≡ B.origin board.old }
+{
+    let entry = LogEntry::Out { channel, value };
+    put(plan, board, len, &entry, By::Instr { pc })
+}
+
+// Asks for one instruction, whose output is the record behind the first `len`.
+fn ask<B: Board>(
+    plan: &Plan,
+    board: &mut B,
+    len: &mut u32,
+    pc: u32,
+    class: Class,
+    did: Did,
+) -> Chunk
+    requires on { (B.state board.old).on ≡ true }
+    requires image { size_of plan.now.layout ≤ length (B.state board.old).image }
+    requires len { len.old ≤ plan.now.layout.log }
+    ensures asked { AskedOnce plan.now.layout.log (B.state board.old) (ask_with plan.now.layout len.old pc class (out_of did)) result (B.state board.new) }
     ensures len { result ≡ Chunk.Ended → len.new ≡ len.old + length (listed (out_of did)) }
     ensures few { len.new ≤ plan.now.layout.log }
     ensures fits { IfSome (out_of did) (λ o. FitsSigned w32 o.1) }
@@ -84,31 +108,46 @@ fn ask<B: Board>(plan: &Plan, board: &mut B, len: &mut u32, pc: u32, kind: Kind,
     ensures origin { B.origin board.new ≡ B.origin board.old }
 {
     match did {
-        Did::Emitted { channel, value } => {
-            let entry = LogEntry::Out { channel, value };
-            put(plan, board, len, &entry, By::Instr { pc })
-        }
-        _ => chunk_of(board.run(board_class(kind), pc)),
+        Did::Emitted { channel, value } => put_out(plan, board, len, pc, channel, value),
+        _ => chunk_of(board.run(class, pc)),
     }
 }
 
+// What an instruction of a task has to leave in store before tick `until`. It is looked up anew from that tick on.
+#[derive(Clone, Copy)]
+struct Floor {
+    until: u32,
+    units: u128,
+}
+
 // Whether an instruction may not start: the store is below what tasks have to leave.
-fn is_too_low<B: Board>(plan: &Plan, board: &B, mode: Mode) -> bool
-    ensures { IsTrue result ↔ ((B.state board.now).stored < (limits_of plan.now mode).floor (B.state board.now).tick) }
+fn is_too_low<B: Board>(plan: &Plan, board: &B, mode: Mode, floor: &mut Floor) -> bool
+    requires { HoldsFloor plan.now floor.old (B.state board.now).tick }
+    ensures low { IsTrue result ↔ ((B.state board.now).stored < (limits_of plan.now mode).floor (B.state board.now).tick) }
+    ensures holds { HoldsFloor plan.now floor.new (B.state board.now).tick }
 {
     match mode {
-        Mode::Task => u128::from(board.stored()) < plan.floor_at(board.tick()),
+        Mode::Task => {
+            let tick = board.tick();
+            if floor.until <= tick {
+                *floor = Floor {
+                    until: plan.row_until(tick),
+                    units: plan.floor_at(tick),
+                };
+            }
+            u128::from(board.stored()) < floor.units
+        }
         Mode::Handler => false,
     }
 }
 
-// The place of the next instruction, of which there is one.
-fn place(code: &Code, working: &Working) -> u32
-    requires { (pc : ℕ) × (next_of code.now working.now ≡ Some pc) }
-    ensures { next_of code.now working.now ≡ Some result }
+// The next instruction, of which there is one.
+fn next_instr(code: &Code, working: &Working) -> Fetched
+    requires { (next : Next) × IsNext code.now working.now next }
+    ensures { IsNext code.now working.now result }
 {
-    match next(code, working) {
-        Some(pc) => pc,
+    match fetch(code, working) {
+        Some(next) => next,
         None => unreachable!(),
     }
 }
@@ -145,14 +184,15 @@ pub(crate) fn run_path<B: Board>(
     ensures origin { B.origin board.new ≡ B.origin board.old }
 {
     runs_end();
+    let mut floor = Floor { until: 0, units: 0 };
     'turns: for _ in 0..MOST_TURNS {
-        if is_too_low(plan, board, mode) {
+        if is_too_low(plan, board, mode, &mut floor) {
             return Chunk::Dropped;
         }
-        let pc = place(&plan.code, working);
-        let kind = class(&plan.code.instr(pc));
-        let did = step(&plan.code, working, mode);
-        match ask(plan, board, len, pc, kind, did) {
+        let next = next_instr(&plan.code, working);
+        let class = class(&next.instr);
+        let did = step_fetched(&plan.code, working, mode, next);
+        match ask(plan, board, len, next.pc, class, did) {
             Chunk::Ended => {}
             stopped => return stopped,
         }

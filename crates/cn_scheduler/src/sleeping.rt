@@ -9,7 +9,7 @@ impl Plan {
     ghost use Rattle.cn_scheduler.specs.InForce.{in_force};
 
     // The tick up to which the row in force at a tick stays so.
-    fn row_until(&self, tick: u32) -> u32
+    pub(crate) fn row_until(&self, tick: u32) -> u32
         ensures later { tick < 4294967295 → tick < result }
         ensures same { (t : ℕ) → tick ≤ t → t < result → in_force self.now.rows t ≡ in_force self.now.rows tick }
     {

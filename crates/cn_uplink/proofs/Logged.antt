@@ -26,7 +26,7 @@ use Rattle.cn_uplink.specs.Log.{entry_by, log_of, HasCommitted}
 
 -- ---- one entry more
 
-pub entry_is : (l : Layout) (program : Checked) (image : List ℕ) (place : ℕ) (entry : LogEntry) → ((l : Layout) (entry : LogEntry) → EntryFits entry → entry_of l (record_of l entry) ≡ entry)
+pub entry_is : (l : Layout) (program : Checked) (image : List ℕ) (place : ℕ) (entry : LogEntry) → ((l : Layout) (entry : LogEntry) → EntryFits l entry → entry_of l (record_of l entry) ≡ entry)
     → IsSpelled l program (record_bytes l place image) entry → entry ≡ entry_by l image place
 entry_is l program image place entry again is = sym (ap (entry_of l) is.bytes_are ∙ again l entry is.fits)
 

@@ -9,8 +9,6 @@ mod link_steps;
 mod log;
 mod packet;
 mod table;
-#[cfg(test)]
-mod tests;
 mod text;
 mod wire;
 mod world;

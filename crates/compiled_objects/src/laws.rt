@@ -13,7 +13,7 @@ ghost use Rattle.cn_object.specs.Verified.{IsVerified};
 
 use cat_machine::code_is_laid_out;
 use cn_object::{one_object_law, one_verdict_law};
-use compiled_bounds::{compiled_bounds_law, handler_paths_law, one_bounds_law};
+use cost_bounds::{compiled_bounds_law, handler_paths_law, one_bounds_law};
 
 /// The code of a checked program keeps every rule that the verifier asks of code, with the program's words and tasks: a law of
 /// the definitions.

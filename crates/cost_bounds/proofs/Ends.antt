@@ -1,5 +1,5 @@
 -- Where the tasks' code of a program ends.
-use Rattle.std.proofs.Common.{◌≡◌, ℕ, suc, ◌+◌, ◌<◌, ◌≤◌, min, List, [], ◌∷◌, length, Some, None, refl, sym, ap, ◌∙◌, arith, length-append}
+use Rattle.std.proofs.Common.{◌≡◌, ℕ, zero, suc, ◌+◌, ◌<◌, ◌≤◌, min, List, [], ◌∷◌, length, Option, Some, None, refl, sym, ap, ◌∙◌, arith, length-append}
 use Rattle.std.specs.Prelude.{slice_get, unwrap_or, map}
 use Rattle.cat_program.specs.declared.headers.Event.{Event}
 use Rattle.cat_program.specs.Declares.{EachEventIs}
@@ -9,6 +9,7 @@ use Rattle.cat_program.specs.Checked.{Checked, IsChecked, bodies_of, versions_of
 use Rattle.cat_machine.specs.CodeValue.{CodeValue, versions_at}
 use Rattle.cat_machine.specs.Code.{tasks_code, events_code, events_entries, code_of}
 use Rattle.cat_machine.specs.LaidOut.{CodeIsLaidOut}
+use Rattle.cost_bounds.specs.Pass.{tasks_in}
 use Rattle.cost_bounds.proofs.Programs.{program_versions}
 
 code_length : CodeIsLaidOut → (p : Checked) → length (code_of p).instrs ≡ tasks_size (bodies_of p) + length (events_code (tasks_size (bodies_of p)) (versions_of p))
@@ -66,3 +67,18 @@ end_somewhere p checked some none =
 -- without events there is no first version
 pub no_first_version : (code : CodeValue) → length code.versions ≡ 0 → slice_get (versions_at code 0) 0 ≡ None
 no_first_version code e = no_version code.versions e
+
+-- the tasks' code of a program ends where the first version begins
+pub tasks_end : CodeIsLaidOut → (p : Checked) → IsChecked p → tasks_in (code_of p) ≡ tasks_size (bodies_of p)
+tasks_end laid p checked = by_first (slice_get (versions_at (code_of p) 0) 0) refl
+  where
+    len : ℕ
+    len = length (code_of p).instrs
+
+    by_events : (n : ℕ) → length (code_of p).versions ≡ n → slice_get (versions_at (code_of p) 0) 0 ≡ None → len ≡ tasks_size (bodies_of p)
+    by_events zero e none = end_without_events laid p e
+    by_events (suc n) e none = absurd (end_somewhere p checked (omega (arith, e)) none)
+
+    by_first : (o : Option ℕ) → slice_get (versions_at (code_of p) 0) 0 ≡ o → tasks_in (code_of p) ≡ tasks_size (bodies_of p)
+    by_first None e = ap (λ q. min len (unwrap_or q len)) e ∙ omega (arith, by_events (length (code_of p).versions) refl e)
+    by_first (Some entry) e = ap (λ q. min len (unwrap_or q len)) e ∙ end_at_first laid p entry len refl e

@@ -3,7 +3,7 @@ use Rattle.std.proofs.Common.{◌≡◌, ℕ, zero, suc, ◌+◌, ◌*◌, ◌<�
 use Rattle.std.specs.Prelude.{max, slice_get, pos, ◌⊎◌}
 use Rattle.std.proofs.lemmas.Bool.{cases_lt}
 use Rattle.cat_program.specs.declared.syntax.Expr.{Expr}
-use Rattle.cat_program.specs.declared.syntax.Class.TheVariants.{Basic}
+use Rattle.nv_memory.specs.declared.device.Class.TheVariants.{Basic}
 use Rattle.cat_program.specs.Body.{Simple, SetWord, SetElement, Emit, Raise, Body, Empty, Plain, When, Choice, Loop, Turns}
 use Rattle.cat_program.specs.Places.{expr_size, operands_size, body_size}
 use Rattle.cat_program.specs.Checked.{EventWorks}

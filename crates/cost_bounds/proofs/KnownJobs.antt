@@ -1,7 +1,7 @@
 -- The same of jobs: units and ticks, each by itself.
 use Rattle.std.proofs.Common.{◌≡◌, ℕ, ◌+◌, ◌<◌, ◌≤◌, true, false, Some, None, refl, ap, ◌∙◌, arith}
 use Rattle.std.specs.Prelude.{slice_get, length, pos}
-use Rattle.cat_program.specs.declared.syntax.Class.{Class}
+use Rattle.nv_memory.specs.declared.device.Class.{Class}
 use Rattle.nv_memory.specs.declared.device.Device.{Device}
 use Rattle.cat_machine.specs.declared.instr.Instr.{Instr}
 use Rattle.cat_machine.specs.declared.instr.Instr.TheVariants as i

@@ -9,3 +9,4 @@ pub mod Passing
 pub mod Ends
 pub mod Totals
 pub mod Made
+pub mod Once

@@ -1,8 +1,8 @@
 -- The bounds that the pass gives are the greatest sums over the paths.
 use Rattle.std.proofs.Common.{◌≡◌, ℕ, zero, suc, ◌+◌, ◌*◌, ◌<◌, ◌≤◌, List, [], ◌∷◌, ◌++◌, length, take, Option, Some, None, refl, sym, ap, ◌∙◌, subst, arith, inl, inr, ⊎_elim, append-nil}
 use Rattle.std.specs.Prelude.{slice_get, unwrap_or, map, ◌⊎◌}
-use Rattle.cat_program.specs.declared.syntax.Class.{Class}
-use Rattle.cat_program.specs.declared.syntax.Class.TheVariants.{Basic, Memory, Out}
+use Rattle.nv_memory.specs.declared.device.Class.{Class}
+use Rattle.nv_memory.specs.declared.device.Class.TheVariants.{Basic, Memory, Out, Write, Wake}
 use Rattle.cat_program.specs.Body.{Body, tree_of}
 use Rattle.cat_program.specs.Places.{body_size, tasks_size, version_size, versions_size}
 use Rattle.cat_program.specs.Checked.{Checked, IsChecked, bodies_of, versions_of, version_at}
@@ -31,11 +31,15 @@ units_small : (d : Device) (c : Class) → units_of d c ≤ 1000000
 units_small d Basic = d.basic.bound_in_range
 units_small d Memory = d.memory.bound_in_range
 units_small d Out = d.out.bound_in_range
+units_small d Write = d.write.bound_in_range
+units_small d Wake = d.wake.bound_in_range
 
 ticks_small : (d : Device) (c : Class) → ticks_of d c ≤ 1000000
 ticks_small d Basic = omega (arith, d.basic.few_ticks)
 ticks_small d Memory = omega (arith, d.memory.few_ticks)
 ticks_small d Out = omega (arith, d.out.few_ticks)
+ticks_small d Write = omega (arith, d.write.few_ticks)
+ticks_small d Wake = omega (arith, d.wake.few_ticks)
 
 abbrev Small : Costs → Type 0
 Small u = (c : Class) → u c ≤ 1000000
@@ -183,7 +187,7 @@ module _ (laid : CodeIsLaidOut) (u : Costs) (p : Checked) (checked : IsChecked p
 
 -- ---- jobs
 
-job_ext : (a b : Job) → a.units ≡ b.units → a.ticks ≡ b.ticks → a ≡ b
+pub job_ext : (a b : Job) → a.units ≡ b.units → a.ticks ≡ b.ticks → a ≡ b
 job_ext a b e d =
     ap (λ x. let v : Job = record { units = x; ticks = a.ticks } in v) e ∙ ap (λ x. let v : Job = record { units = b.units; ticks = x } in v) d
 

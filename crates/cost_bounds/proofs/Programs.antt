@@ -1,7 +1,7 @@
 -- The greatest sums over the paths of a program's code, and its runs.
 use Rattle.std.proofs.Common.{◌≡◌, ℕ, zero, suc, ◌+◌, ◌<◌, ◌≤◌, List, [], ◌∷◌, ◌++◌, length, Some, None, refl, ap, ◌∙◌, subst, arith, inl, inr, ⊎_elim}
 use Rattle.std.specs.Prelude.{slice_get, unwrap_or, map, ℤ, ◌⊎◌}
-use Rattle.cat_program.specs.declared.syntax.Class.TheVariants.{Basic}
+use Rattle.nv_memory.specs.declared.device.Class.TheVariants.{Basic}
 use Rattle.cat_program.specs.Body.{Body, tree_of}
 use Rattle.cat_program.specs.Places.{body_size, tasks_size, version_size, versions_size}
 use Rattle.cat_program.specs.Checked.{Checked, IsChecked, HasVersion, bodies_of, versions_of, version_at}
@@ -137,7 +137,7 @@ entry_of_version p event version has =
 
 -- ---- runs
 
-at_most : (is_path : List ℕ → Type 0) (sum : List ℕ → ℕ) (m n : ℕ) → IsGreatest is_path sum m → IsGreatest is_path sum n → m ≤ n
+pub at_most : (is_path : List ℕ → Type 0) (sum : List ℕ → ℕ) (m n : ℕ) → IsGreatest is_path sum m → IsGreatest is_path sum n → m ≤ n
 at_most is_path sum m n a b =
     let some : ((path : List ℕ) × is_path path × (sum path ≡ m)) → m ≤ n = λ r. omega (arith, b.upper r.0 r.1, r.2) in
     let none : (((path : List ℕ) → is_path path → ⊥) × (m ≡ 0)) → m ≤ n = λ r. omega (arith, r.1) in

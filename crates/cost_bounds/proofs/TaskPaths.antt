@@ -3,7 +3,7 @@ use Rattle.std.proofs.Common.{◌≡◌, ℕ, ◌+◌, ◌<◌, ◌≤◌, Bool,
 use Rattle.std.specs.Prelude.{max, slice_get, ◌⊎◌}
 use Rattle.std.proofs.lemmas.Bool.{cases_lt}
 use Rattle.cat_program.specs.declared.syntax.Expr.{Expr, Number, Payload, Word, Element', Signed', Chain', Row_of-Further, end_of-Further, more_of-Further}
-use Rattle.cat_program.specs.declared.syntax.Class.TheVariants.{Basic}
+use Rattle.nv_memory.specs.declared.device.Class.TheVariants.{Basic}
 use Rattle.cat_program.specs.Body.{Simple, SetWord, SetElement, Emit, Raise, Body, Empty, Plain, When, Choice, Loop, Turns}
 use Rattle.cat_program.specs.Places.{expr_size, operands_size, body_size, task_size, tasks_size}
 use Rattle.cat_program.specs.Checked.{TaskWorks, EachTaskWorks}

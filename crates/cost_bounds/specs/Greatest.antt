@@ -1,9 +1,9 @@
 -- The greatest sums over the paths of a program's code.
 use Rattle.std.specs.Prelude.{◌≡◌, ℕ, ◌+◌, ◌*◌, ◌≤◌, ◌⊎◌, ℤ, List, ◌++◌, length, map, Some}
-use Rattle.cat_program.specs.declared.syntax.Class.TheVariants.{Basic, Memory, Out}
 use Rattle.cat_program.specs.Checked.{Checked}
 use Rattle.nv_memory.specs.declared.device.Device.{Device}
 use Rattle.nv_memory.specs.declared.device.Cost.{Cost}
+use Rattle.nv_memory.specs.AnyBoard.{cost_of}
 use Rattle.cat_machine.specs.declared.instr.Mode.TheVariants.{Task, Handler}
 use Rattle.cat_machine.specs.CodeValue.{EntryAt}
 use Rattle.cat_machine.specs.Held.{Held}
@@ -16,14 +16,10 @@ use Rattle.cost_bounds.specs.Paths.{IsSection, IsHandler}
 
 -- the most units that an instruction of each class draws, and its ticks
 abbrev pub units_of : Device → Costs
-units_of device Basic = device.basic.bound
-units_of device Memory = device.memory.bound
-units_of device Out = device.out.bound
+units_of device class = (cost_of device class).bound
 
 abbrev pub ticks_of : Device → Costs
-ticks_of device Basic = device.basic.ticks
-ticks_of device Memory = device.memory.ticks
-ticks_of device Out = device.out.ticks
+ticks_of device class = (cost_of device class).ticks
 
 -- what a path of a program's code sums to
 abbrev pub sum_over : Costs → Checked → List ℕ → ℕ

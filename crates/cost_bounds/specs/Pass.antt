@@ -1,7 +1,7 @@
 -- What a backward pass over code works out for each place.
 use Rattle.std.specs.Prelude.{◌≡◌, ℕ, ◌+◌, ◌-◌, ◌*◌, ◌^◌, ◌<◌, ◌≤◌, ◌⊎◌, min, max, Bool, true, false, pos, List, length, map, take, Some, slice_get, unwrap_or}
-use Rattle.cat_program.specs.declared.syntax.Class.{Class}
-use Rattle.cat_program.specs.declared.syntax.Class.TheVariants.{Basic}
+use Rattle.nv_memory.specs.declared.device.Class.{Class}
+use Rattle.nv_memory.specs.declared.device.Class.TheVariants.{Basic}
 use Rattle.nv_memory.specs.declared.device.Device.{Device}
 use Rattle.nv_memory.specs.declared.device.Cost.{Cost}
 use Rattle.cat_machine.specs.declared.instr.Instr.{Instr}

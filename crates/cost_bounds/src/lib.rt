@@ -10,5 +10,8 @@ mod tests;
 mod total;
 
 pub use job::{Bounds, Job};
-pub use laws::{runs_within_law, sections_are_paths, versions_have_jobs_law};
+pub use laws::{
+    compiled_bounds_law, handler_paths_law, one_bounds_law, runs_within_law, sections_are_paths,
+    versions_have_jobs_law,
+};
 pub use total::{bounds, code_bounds};

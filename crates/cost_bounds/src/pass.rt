@@ -1,15 +1,12 @@
 //! The pass over a program's code, from its last place to its first.
 
 ghost use Rattle.std.specs.Prelude.{◌≡◌, ◌≤◌, ◌<◌, ◌+◌, IfOk, length, slice_get};
-ghost use Rattle.cat_program.specs.Places.{tasks_size};
-ghost use Rattle.cat_program.specs.Checked.{Checked, IsChecked, bodies_of};
 ghost use Rattle.cat_machine.specs.CodeValue.{versions_at};
-ghost use Rattle.cat_machine.specs.Code.{code_of};
 ghost use Rattle.cost_bounds.specs.Pass.{AllKnown, PlaceKnown, tasks_in};
 
 use crate::job::Job;
 use crate::place::{handler_from, section_from};
-use cat_machine::{Code, code_is_laid_out};
+use cat_machine::Code;
 use nv_memory::Device;
 use std::alloc::{AllocError, Global};
 
@@ -25,9 +22,7 @@ fn first_entry(code: &Code) -> Option<u32>
 pub(crate) fn tasks_end(code: &Code) -> u32
     ensures within { result ≤ length code.now.instrs }
     ensures is { result ≡ tasks_in code.now }
-    ensures value { (p : Checked) → IsChecked p → code.now ≡ code_of p → result ≡ tasks_size (bodies_of p) }
 {
-    code_is_laid_out();
     let len = code.len();
     if code.events() == 0 {
         return len;

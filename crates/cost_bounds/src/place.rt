@@ -7,18 +7,13 @@ ghost use Rattle.cost_bounds.specs.Pass.{class_job, front_of, job_in, HandlerKno
 
 use crate::job::Job;
 use cat_machine::{Code, Instr, class};
-use cat_program::Class;
-use nv_memory::Device;
+use nv_memory::{Class, Device};
 
 // What one instruction of a class takes.
 fn class_job(device: &Device, class: Class) -> Job
     ensures { result ≡ class_job device.now class }
 {
-    let cost = match class {
-        Class::Basic => device.basic,
-        Class::Memory => device.memory,
-        Class::Out => device.out,
-    };
+    let cost = device.cost(class);
     Job {
         units: u64::from(cost.bound),
         ticks: u64::from(cost.ticks),

@@ -5,8 +5,6 @@ ghost use Rattle.cat_machine.specs.Held.{Held};
 ghost use Rattle.cat_machine.specs.Code.{code_of};
 ghost use Rattle.cost_bounds.specs.BoundsValue.{jobs_of};
 ghost use Rattle.cat_machine.specs.Fits.{Fits};
-ghost use Rattle.cat_program.specs.Places.{tasks_size};
-ghost use Rattle.cat_program.specs.Checked.{Checked, IsChecked, bodies_of};
 ghost use Rattle.cost_bounds.specs.Greatest.{AreBounds, RunsWithin};
 ghost use Rattle.cost_bounds.specs.Pass.{AreMade, IsDearest, around_job, cost_job, entry_job, entry_jobs, tasks_in};
 
@@ -90,8 +88,7 @@ pub(crate) fn made(
     device: &Device,
     lines: u32,
 ) -> Result<Bounds, AllocError>
-    ensures any { IfOk result (λ b. AreMade code.now device.now lines (tasks_in code.now) b) }
-    ensures compiled { IfOk result (λ b. (p : Checked) → IsChecked p → code.now ≡ code_of p → AreMade code.now device.now lines (tasks_size (bodies_of p)) b) }
+    ensures { IfOk result (λ b. AreMade code.now device.now lines (tasks_in code.now) b) }
 {
     let tasks = tasks_end(code);
     let most = pass(alloc, code, device, tasks)?;

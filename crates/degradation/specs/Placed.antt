@@ -10,3 +10,5 @@ pub record IsLayoutOf (p : Checked) (d : Device) (l : Layout) : Type 0 where
   pub tasks : l.tasks ≡ length p.tasks
   pub events : l.events ≡ length p.events
   pub log : l.log ≡ d.log
+  pub format : l.format ≡ 1
+  pub base : l.base ≡ 64

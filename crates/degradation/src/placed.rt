@@ -21,6 +21,8 @@ pub fn layout_of(program: &Program, device: &Device) -> Layout
         tasks: program.tasks(),
         events: program.events(),
         log: device.log,
+        format: 1,
+        base: 64,
     }
 }
 

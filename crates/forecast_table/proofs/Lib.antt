@@ -1,3 +1,4 @@
 pub mod InForce
 pub mod Steps
 pub mod Staying
+pub mod Told

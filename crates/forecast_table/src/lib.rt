@@ -10,5 +10,5 @@ mod tests;
 
 pub use epoch::Epoch;
 pub use epochs::{Forecast, MOST_EPOCHS};
-pub use laws::epochs_law;
+pub use laws::{epochs_law, told_forecasts_are_sound};
 pub use table::{ForecastFault, forecast};

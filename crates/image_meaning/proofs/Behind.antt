@@ -88,7 +88,7 @@ module _ (spelled : EntriesAreSpelledOnce) (appends : AppendsAreSafe) (last : Co
       by_rest (inr end) = inr ((let same = end.0 in omega arith), end.1)
 
   appended_by : (entry : LogEntry) (image new : List ℕ) (entries : List LogEntry) → ChangesRecord l (length entries) image new → record_bytes l (length entries) new ≡ record_of l entry
-      → IsOf program entry → EntryFits entry → Spells l program image entries → Spells l program new (entries ++ entry ∷ [])
+      → IsOf program entry → EntryFits l entry → Spells l program image entries → Spells l program new (entries ++ entry ∷ [])
   appended_by entry image new entries change own exists fits spell = λ k found at. by_place k found (last_or entries entry found k at)
     where
       by_place : (k : ℕ) (found : LogEntry) → (slice_get entries k ≡ Some found) ⊎ ((k ≡ length entries) × (entry ≡ found)) → IsSpelled l program (record_bytes l k new) found
@@ -97,7 +97,7 @@ module _ (spelled : EntriesAreSpelledOnce) (appends : AppendsAreSafe) (last : Co
           subst (λ (e : LogEntry). IsSpelled l program (record_bytes l k new) e) end.1
           (subst (λ (j : ℕ). IsSpelled l program (record_bytes l j new) entry) (sym end.0) (record { exists = exists; fits = fits; bytes_are = own }))
 
-  pub appended : (entry : LogEntry) (kind : By) (image : List ℕ) (entries : List LogEntry) → length entries < l.log → size_of l ≤ length image → IsOf program entry → EntryFits entry
+  pub appended : (entry : LogEntry) (kind : By) (image : List ℕ) (entries : List LogEntry) → length entries < l.log → size_of l ≤ length image → IsOf program entry → EntryFits l entry
       → Spells l program image entries → Spells l program (image_after (append_op l (length entries) entry kind) image) (entries ++ entry ∷ [])
   appended entry kind image entries within large exists fits spell =
       let done = appends.done l (length entries) entry kind image within large in

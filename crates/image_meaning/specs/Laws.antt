@@ -27,7 +27,7 @@ pub record OperationsAreSafe (l : Layout) (program : Checked) : Type 0 where
   -- an entry that is appended is one of them
   pub behind : (n place : ℕ) (entry : LogEntry) (kind : By) → n ≤ place → place < l.log → IsBehind l n (append_op l place entry kind)
   -- and once it is done, the log spells it too
-  pub appended : (entry : LogEntry) (kind : By) (image : List ℕ) (entries : List LogEntry) → length entries < l.log → size_of l ≤ length image → IsOf program entry → EntryFits entry
+  pub appended : (entry : LogEntry) (kind : By) (image : List ℕ) (entries : List LogEntry) → length entries < l.log → size_of l ≤ length image → IsOf program entry → EntryFits l entry
       → Spells l program image entries → Spells l program (image_after (append_op l (length entries) entry kind) image) (entries ++ entry ∷ [])
   -- an operation that was done left its own bytes
   pub own_bytes : (op : Op) → leaving op (left_of op) ≡ op

@@ -199,7 +199,7 @@ module _ (program : Checked) (l : Layout) (safe : OperationsAreSafe l program) w
   path_spells (a ∷ acts) floor at es old new place fits large asked spell = instr_spells a.pc a.class a.out acts (path_spells acts) floor at es old new place fits large asked spell
 
   -- one record more
-  pub record_spells : (floor : ℕ → ℕ) (at : ℕ) (entry : LogEntry) (kind : By) (es : List LogEntry) (old new : State) → at ≡ length es → IsOf program entry → EntryFits entry → size_of l ≤ length old.image
+  pub record_spells : (floor : ℕ → ℕ) (at : ℕ) (entry : LogEntry) (kind : By) (es : List LogEntry) (old new : State) → at ≡ length es → IsOf program entry → EntryFits l entry → size_of l ≤ length old.image
       → Asked (limits_with l floor) old (recording l at entry kind ∷ []) Ended new → Spells l program old.image es → Spells l program new.image (es ++ entry ∷ [])
   record_spells floor at entry kind es old new place exists fits large (inl stops) spell = absurd stops
   record_spells floor at entry kind es old new place exists fits large (inr goes) spell =

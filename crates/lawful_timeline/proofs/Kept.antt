@@ -430,7 +430,7 @@ module _ (program : Checked) (plan : Plan) (laws : Laws program plan) (set_up : 
 
     -- ---- a job that comes to its commit
 
-    job_spells : (mid : State) → Asked (no_floor plan) b (job_asks plan here due run) Ended mid → AreFit (run_outs run) → EntryFits (ran_of plan here due) → Spells plan.layout program mid.image served.entries
+    job_spells : (mid : State) → Asked (no_floor plan) b (job_asks plan here due run) Ended mid → AreFit (run_outs run) → EntryFits plan.layout (ran_of plan here due) → Spells plan.layout program mid.image served.entries
     job_spells mid asked fits ran_fits =
         let acts = run_acts plan.code run in
         let last = asked_parts (no_floor plan) (wake_asks b.on ++ path_asks plan.layout w.len (run_acts plan.code run)) (recording plan.layout (w.len + length (run_outs run)) (ran_of plan here due) by.Write ∷ []) b mid asked in
@@ -452,7 +452,7 @@ module _ (program : Checked) (plan : Plan) (laws : Laws program plan) (set_up : 
         (subst (λ (os : List Output). Spells plan.layout program mid.image (m.entries ++ map entry_of os ++ ran_of plan here due ∷ [])) (handler_outs program plan set_up m.state due.event (version_of plan.rows due) due.payload run handler quiet) whole)
 
     -- the working value behind it, before it is saved
-    sound_served : (mid : State) → Asked (no_floor plan) b (job_asks plan here due run) Ended mid → AreFit (run_outs run) → EntryFits (ran_of plan here due) → Sound mid (after_job w due run) v served true
+    sound_served : (mid : State) → Asked (no_floor plan) b (job_asks plan here due run) Ended mid → AreFit (run_outs run) → EntryFits plan.layout (ran_of plan here due) → Sound mid (after_job w due run) v served true
     sound_served mid asked fits ran_fits =
         let left : Left plan.layout program w.len (λ t. 0) b mid = job_left Ended mid asked in
         let started : last_start_of served.entries ≡ b.tick = laws.tells.arrival_start m (handled (version_at program due.event (version_of plan.rows due)) due.payload m.state.store) due.event (version_of plan.rows due) m.steps b.tick due.index in
@@ -479,7 +479,7 @@ module _ (program : Checked) (plan : Plan) (laws : Laws program plan) (set_up : 
         by_outcome Over c l = tt
         by_outcome Full c l = tt
 
-    kept_late : (mid : State) (outcome : Chunk) (q : Point) → Asked (no_floor plan) b (job_asks plan here due run) Ended mid → AreFit (run_outs run) → EntryFits (ran_of plan here due) → FitsSlot plan.layout (after_job w due run)
+    kept_late : (mid : State) (outcome : Chunk) (q : Point) → Asked (no_floor plan) b (job_asks plan here due run) Ended mid → AreFit (run_outs run) → EntryFits plan.layout (ran_of plan here due) → FitsSlot plan.layout (after_job w due run)
         → Commits plan (after_job w due run) mid outcome q.board → Leaves plan here (after_job w due run) false outcome q → Kept v m b.tick outcome b q
     kept_late mid outcome q asked fits ran_fits slot_fits commits leaves =
         let left : Left plan.layout program w.len (λ t. 0) b mid = job_left Ended mid asked in

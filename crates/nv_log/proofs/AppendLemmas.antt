@@ -1,6 +1,8 @@
 -- What an append leaves alone.
-use Rattle.std.proofs.Common.{◌≡◌, inl, inr, ℕ, ◌+◌, ◌<◌, ◌≤◌, List, length, refl, sym, ◌∙◌, ap, subst, arith}
+use Rattle.std.proofs.Common.{◌≡◌, inl, inr, ℕ, ◌+◌, ◌<◌, ◌≤◌, List, length, Bool, true, false, refl, sym, ◌∙◌, ap, subst, arith}
 use Rattle.std.proofs.lemmas.Bool.{cases_lt}
+use Rattle.std.specs.Prelude.{◌==◌, if◌then◌else◌}
+use Rattle.std.specs.Int.{w32, cast_unsigned}
 use Rattle.cat_program.specs.declared.outs.LogEntry.{LogEntry}
 use Rattle.cat_program.specs.declared.outs.LogEntry.TheVariants.{Out, Ran}
 use Rattle.nv_memory.specs.declared.layout.Layout.{Layout}
@@ -15,12 +17,17 @@ use Rattle.nv_log.specs.declared.log.By.{By}
 use Rattle.nv_log.specs.declared.log.By.TheVariants as by
 use Rattle.nv_log.specs.declared.log.Put.TheVariants as put
 use Rattle.nv_log.specs.PutOf.{put_of_answer}
-use Rattle.nv_log.specs.Record.{record_of, record_bytes}
+use Rattle.nv_log.specs.Record.{record_of, record_bytes, short_record, long_record}
 use Rattle.nv_log.specs.Append.{op_of, append_op, Puts, ChangesRecord}
 
+length-with : (short : Bool) (kind a b c first second third last : ℕ)
+    → length (if short then short_record kind a b c first second third else long_record kind a b c first second third last) ≡ (if short then 16 else 24)
+length-with true kind a b c first second third last = refl
+length-with false kind a b c first second third last = refl
+
 pub length-record : (l : Layout) (entry : LogEntry) → length (record_of l entry) ≡ record_len l
-length-record l (Out channel value) = refl
-length-record l (Ran event version steps start index) = refl
+length-record l (Out channel value) = length-with (l.format == 1) 1 channel 0 0 (cast_unsigned w32 value) 0 0 0
+length-record l (Ran event version steps start index) = length-with (l.format == 1) 2 event version 0 steps start index 0
 
 image-op : (kind : By) (at : ℕ) (bytes image : List ℕ) → image_after (op_of kind at bytes) image ≡ written at bytes image
 image-op by.Write at bytes image = refl

@@ -44,4 +44,4 @@ pub record AppendsAreSafe : Type 0 where
 -- each entry has one spelling, of a record's length, and no two have the same
 pub record EntriesAreSpelledOnce : Type 0 where
   pub length_is : (l : Layout) (entry : LogEntry) → length (record_of l entry) ≡ record_len l
-  pub once : (l : Layout) (one other : LogEntry) → EntryFits one → EntryFits other → record_of l one ≡ record_of l other → one ≡ other
+  pub once : (l : Layout) (one other : LogEntry) → EntryFits l one → EntryFits l other → record_of l one ≡ record_of l other → one ≡ other

@@ -13,7 +13,7 @@ pub fn entries_are_spelled_once()
 
 /// An entry is what its spelling stands for.
 pub fn records_are_read_again()
-    ensures { (l : Places) (entry : Recorded) → EntryFits entry → entry_of l (record_of l entry) ≡ entry }
+    ensures { (l : Places) (entry : Recorded) → EntryFits l entry → entry_of l (record_of l entry) ≡ entry }
 {}
 
 /// What the one write of an append leaves, finished or torn: the gate, the slots and all other records stay.

@@ -7,4 +7,4 @@ mod log;
 mod tests;
 
 pub use laws::{appends_are_safe, entries_are_spelled_once, records_are_read_again};
-pub use log::{By, Put, append, entry_at};
+pub use log::{By, Put, append, entry_at, moved_record};

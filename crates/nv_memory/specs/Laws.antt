@@ -53,7 +53,7 @@ pub record PartsAreApart (l : Layout) : Type 0 where
 
 -- what a layout's type keeps of its numbers makes no two layouts of the same ones
 abbrev pub LayoutsAreNumbers : Type 0
-LayoutsAreNumbers = (a b : Layout) → a.words ≡ b.words → a.tasks ≡ b.tasks → a.events ≡ b.events → a.log ≡ b.log → a ≡ b
+LayoutsAreNumbers = (a b : Layout) → a.words ≡ b.words → a.tasks ≡ b.tasks → a.events ≡ b.events → a.log ≡ b.log → a.format ≡ b.format → a.base ≡ b.base → a ≡ b
 
 -- how long an operation takes, and where it writes with other bytes
 pub record OperationsAreBounded : Type 0 where

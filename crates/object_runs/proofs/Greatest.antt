@@ -3,8 +3,8 @@ use Rattle.std.proofs.Common.{◌≡◌, ℕ, zero, suc, ◌+◌, ◌*◌, ◌<�
 use Rattle.std.specs.Prelude.{Option, Some, None, map, slice_get, unwrap_or}
 use Rattle.std.specs.List.{All, flat_map}
 use Rattle.std.proofs.lemmas.List.{length-map}
-use Rattle.cat_program.specs.declared.syntax.Class.{Class}
-use Rattle.cat_program.specs.declared.syntax.Class.TheVariants.{Basic, Memory, Out}
+use Rattle.nv_memory.specs.declared.device.Class.{Class}
+use Rattle.nv_memory.specs.declared.device.Class.TheVariants.{Basic, Memory, Out, Write, Wake}
 use Rattle.nv_memory.specs.declared.device.Device.{Device}
 use Rattle.cat_machine.specs.declared.instr.Instr.{Instr}
 use Rattle.cat_machine.specs.ClassOf.{class_of}
@@ -31,11 +31,15 @@ units_small : (d : Device) (c : Class) → units_of d c ≤ 1000000
 units_small d Basic = d.basic.bound_in_range
 units_small d Memory = d.memory.bound_in_range
 units_small d Out = d.out.bound_in_range
+units_small d Write = d.write.bound_in_range
+units_small d Wake = d.wake.bound_in_range
 
 ticks_small : (d : Device) (c : Class) → ticks_of d c ≤ 1000000
 ticks_small d Basic = omega (arith, d.basic.few_ticks)
 ticks_small d Memory = omega (arith, d.memory.few_ticks)
 ticks_small d Out = omega (arith, d.out.few_ticks)
+ticks_small d Write = omega (arith, d.write.few_ticks)
+ticks_small d Wake = omega (arith, d.wake.few_ticks)
 
 abbrev Small : Costs → Type 0
 Small u = (c : Class) → u c ≤ 1000000

@@ -24,6 +24,8 @@ pub fn object_bounds(alloc: Global, object: &Object, device: &Device) -> Result<
         tasks: object.code.tasks().len() as u8,
         events: object.code.events(),
         log: device.log,
+        format: 1,
+        base: 64,
     };
     code_bounds(alloc, &object.code, device, layout.lines())
 }

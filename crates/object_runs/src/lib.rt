@@ -5,8 +5,6 @@
 mod bounds;
 mod laws;
 mod running;
-#[cfg(test)]
-mod tests;
 
 pub use bounds::object_bounds;
 pub use laws::{costs_within_law, fits_on_law, objects_run_law, one_run_law, runs_well_law};

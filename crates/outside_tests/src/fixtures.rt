@@ -102,6 +102,8 @@ pub(crate) fn slot_of(alloc: Global, read: &Arrivals, done: &[u32]) -> Result<Sl
         tasks: 0,
         events: read.events(),
         log: 1,
+        format: 1,
+        base: 64,
     };
     let mut slot = Slot::with_shape(alloc, &layout)?;
     'events: for event in 0..read.events() {

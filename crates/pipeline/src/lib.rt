@@ -2,7 +2,15 @@
 #![tactic(auto)]
 
 #[cfg(test)]
+mod conditions;
+#[cfg(test)]
 mod events;
+#[cfg(test)]
+mod grammar;
+#[cfg(test)]
+mod names;
+#[cfg(test)]
+mod places;
 #[cfg(test)]
 mod readers;
 #[cfg(test)]

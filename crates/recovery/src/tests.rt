@@ -45,6 +45,8 @@ fn layout() -> Layout
         tasks: 1,
         events: 0,
         log: 1,
+        format: 1,
+        base: 64,
     }
 }
 

@@ -21,7 +21,7 @@ use Rattle.degradation.specs.declared.chosen.Chosen.{Chosen}
 use Rattle.cn_scheduler.specs.declared.plan.Plan.{Plan}
 use Rattle.lawful_timeline.specs.Points.{BeganBefore}
 use Rattle.lawful_timeline.specs.Ending.{HasSaved}
-use Rattle.cn_runtime.specs.Planned.{IsPlanFor}
+use Rattle.cn_runtime.specs.Steady.{IsSteadyPlan}
 use Rattle.cn_runtime.specs.Resumed.{CanGoOn}
 use Rattle.cn_resume.specs.declared.fault.ImageKind.TheVariants as kind
 use Rattle.cn_resume.specs.Records.{IsRecord, StartsBefore, entry_in}
@@ -31,12 +31,12 @@ use Rattle.resumed_runs.proofs.Settings.{current_is, fixed_own, is_there}
 
 -- an entry is what its spelling stands for
 abbrev pub AreReadAgain : Type 0
-AreReadAgain = (l : Layout) (entry : LogEntry) → EntryFits entry → entry_of l (record_of l entry) ≡ entry
+AreReadAgain = (l : Layout) (entry : LogEntry) → EntryFits l entry → entry_of l (record_of l entry) ≡ entry
 
 abbrev value_in : Purpose → List ℕ → Committed
 value_in p file = record { slot = slot_in p file; current = current_in p file; entries = logged_in p file }
 
-module _ (read : AreReadAgain) (program : Checked) (device : Device) (arrivals : Lists) (chosen : Chosen) (plan : Plan) (is_plan : IsPlanFor program device arrivals chosen plan)
+module _ (read : AreReadAgain) (program : Checked) (device : Device) (arrivals : Lists) (chosen : Chosen) (plan : Plan) (is_plan : IsSteadyPlan program device arrivals chosen plan)
     (agrees : AgreesWithOne program chosen.versions arrivals) (life : ℕ) (file : List ℕ) (fit : IsFit (purpose_for program chosen arrivals plan.layout device life) file) where
   abbrev P : Purpose
   P = purpose_for program chosen arrivals plan.layout device life

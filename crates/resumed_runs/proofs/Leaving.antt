@@ -29,7 +29,7 @@ use Rattle.lawful_timeline.specs.Claims.{Begins}
 use Rattle.lawful_timeline.specs.Points.{BeganBefore}
 use Rattle.lawful_timeline.specs.Ending.{EndsHold, HasSaved}
 use Rattle.lawful_timeline.specs.Starting.{StartsBelong, StartsFresh, StartsSaved, saved_point}
-use Rattle.cn_runtime.specs.Planned.{IsPlanFor}
+use Rattle.cn_runtime.specs.Steady.{IsSteadyPlan}
 use Rattle.cn_resume.specs.declared.fault.ImageKind.{ImageKind}
 use Rattle.cn_resume.specs.declared.fault.ImageKind.TheVariants as kind
 use Rattle.cn_resume.specs.Records.{IsRecord, StartsBefore, entries_in, entry_in}
@@ -56,7 +56,7 @@ starts_before : (tick k : ℕ) (entries : List LogEntry) (e : LogEntry) → Bega
 starts_before tick k entries (Out channel value) before at = tt
 starts_before tick k entries (Ran event version steps start index) before at = before k event version steps start index at
 
-module _ (read : AreReadAgain) (program : Checked) (device : Device) (arrivals : Lists) (chosen : Chosen) (plan : Plan) (is_plan : IsPlanFor program device arrivals chosen plan)
+module _ (read : AreReadAgain) (program : Checked) (device : Device) (arrivals : Lists) (chosen : Chosen) (plan : Plan) (is_plan : IsSteadyPlan program device arrivals chosen plan)
     (agrees : AgreesWithOne program chosen.versions arrivals) where
   module _ (board : State) (in_life : board.tick ≤ board.life) (in_range : board.life ≤ MOST_TICKS) (in_cap : board.stored ≤ device.cap) (saved : HasSaved program plan board)
       (size : length board.image ≡ size_of plan.layout) where

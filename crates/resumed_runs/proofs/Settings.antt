@@ -19,15 +19,17 @@ use Rattle.cn_scheduler.specs.declared.plan.Plan.{Plan}
 use Rattle.cn_scheduler.specs.declared.plan.PlanRow.{PlanRow}
 use Rattle.cn_scheduler.specs.InForce.{begins_by, in_force}
 use Rattle.lawful_timeline.specs.Working.{setting_of, versions_at, versions_in}
-use Rattle.cn_runtime.specs.Planned.{IsPlanFor, row_of}
+use Rattle.cn_runtime.specs.Planned.{plan_row}
+use Rattle.cn_runtime.specs.Steady.{IsSteadyPlan}
+use Rattle.forecast_choice.specs.Rows.{row_of}
 
 -- ---- one row
 
 begins : (row : PlanRow) (t : ℕ) → row.from ≡ 0 → begins_by t row ≡ true
 begins row t from = grind (arith, nat_tests)
 
-only_row : (chosen : Chosen) (t : ℕ) → in_force (row_of chosen ∷ []) t ≡ Some (row_of chosen)
-only_row chosen t = rw (begins (row_of chosen) t refl) refl
+only_row : (device : Device) (chosen : Chosen) (t : ℕ) → in_force (plan_row (row_of device) chosen ∷ []) t ≡ Some (plan_row (row_of device) chosen)
+only_row device chosen t = rw (begins (plan_row (row_of device) chosen) t refl) refl
 
 abbrev chosen_setting : Checked → Chosen → Lists → Setting
 chosen_setting program chosen arrivals = record { program = program; versions = λ tick. chosen.versions; arrivals = arrivals }
@@ -36,12 +38,12 @@ chosen_setting program chosen arrivals = record { program = program; versions = 
 abbrev pub IsFixed : Checked → Chosen → Lists → Moment → Type 0
 IsFixed program chosen arrivals m = fixed.IsReference (fixed.setting_of program chosen.versions arrivals) (schedule_of m.entries m.steps) m
 
-module _ (program : Checked) (device : Device) (arrivals : Lists) (chosen : Chosen) (plan : Plan) (is_plan : IsPlanFor program device arrivals chosen plan)
+module _ (program : Checked) (device : Device) (arrivals : Lists) (chosen : Chosen) (plan : Plan) (is_plan : IsSteadyPlan program device arrivals chosen plan)
     (agrees : AgreesWithOne program chosen.versions arrivals) where
   setting_is : setting_of program plan ≡ chosen_setting program chosen arrivals
   setting_is =
       let versions : (t : ℕ) → versions_at plan.rows t ≡ chosen.versions =
-      λ t. ap (λ (o : Option PlanRow). option_map_or versions_in o []) (ap (λ (rows : List PlanRow). in_force rows t) is_plan.rows_are ∙ only_row chosen t) in
+      λ t. ap (λ (o : Option PlanRow). option_map_or versions_in o []) (ap (λ (rows : List PlanRow). in_force rows t) is_plan.rows_are ∙ only_row device chosen t) in
       let arrivals_are = is_plan.arrivals_are in
       λ i. record { program = program; versions = λ t. versions t i; arrivals = arrivals_are i }
 

@@ -14,7 +14,7 @@ use Rattle.cn_scheduler.specs.Chunks.{Link, IsLawful, point_after}
 use Rattle.lawful_timeline.specs.Working.{IsSetUp}
 use Rattle.lawful_timeline.specs.Points.{TakesTime}
 use Rattle.lawful_timeline.specs.Starting.{StartsFresh, saved_point}
-use Rattle.cn_runtime.specs.Planned.{IsPlanFor}
+use Rattle.cn_runtime.specs.Steady.{IsSteadyPlan}
 use Rattle.cn_runtime.specs.Resumed.{CanGoOn}
 use Rattle.cn_resume.specs.Fit.{IsFit, Purpose, image_in, purpose_of, tick_in}
 use Rattle.cn_resume.specs.Saved.{saved_bytes}
@@ -33,7 +33,7 @@ pub record BeginsWith (file : List ℕ) (board : State) : Type 0 where
 abbrev pub FitImagesBegin : Type 0
 FitImagesBegin =
     (program : Checked) (device : Device) (arrivals : Lists) (chosen : Chosen) (plan : Plan) (life : ℕ) (file : List ℕ) (board : State) →
-    IsPlanFor program device arrivals chosen plan → IsFit (purpose_for program chosen arrivals plan.layout device life) file → BeginsWith file board →
+    IsSteadyPlan program device arrivals chosen plan → IsFit (purpose_for program chosen arrivals plan.layout device life) file → BeginsWith file board →
     CanGoOn program plan board
 
 -- a lawful timeline leads from a point to a board within its life, which stores no more than a device can
@@ -49,9 +49,9 @@ pub record LeadsTo (device : Device) (plan : Plan) (p : Point) (board : State) :
 -- the file of a board is fit, wherever a timeline of the plan ended
 pub record SavedImagesFit : Type 0 where
   -- of a run from the first image
-  pub fresh : (program : Checked) (device : Device) (arrivals : Lists) (chosen : Chosen) (plan : Plan) (p : Point) (board : State) → IsPlanFor program device arrivals chosen plan
+  pub fresh : (program : Checked) (device : Device) (arrivals : Lists) (chosen : Chosen) (plan : Plan) (p : Point) (board : State) → IsSteadyPlan program device arrivals chosen plan
       → IsSetUp program plan → StartsFresh program plan p → LeadsTo device plan p board → IsFit (purpose_for program chosen arrivals plan.layout device board.life) (saved_bytes board)
   -- and of one that went on from a file
   pub resumed : (program : Checked) (device : Device) (arrivals : Lists) (chosen : Chosen) (plan : Plan) (life : ℕ) (file : List ℕ) (first board : State)
-      → IsPlanFor program device arrivals chosen plan → IsSetUp program plan → IsFit (purpose_for program chosen arrivals plan.layout device life) file → BeginsWith file first
+      → IsSteadyPlan program device arrivals chosen plan → IsSetUp program plan → IsFit (purpose_for program chosen arrivals plan.layout device life) file → BeginsWith file first
       → LeadsTo device plan (saved_point plan.layout first) board → IsFit (purpose_for program chosen arrivals plan.layout device board.life) (saved_bytes board)

@@ -1,7 +1,7 @@
 -- The bounds of programs that say the same, on a device.
 use Rattle.std.proofs.Common.{◌≡◌, ℕ, suc, ◌≤◌, List, [], ◌∷◌, length, Option, Some, None, inl, inr, refl, ap, sym, ◌∙◌, subst, arith}
 use Rattle.std.specs.Prelude.{map, slice_get, unwrap_or}
-use Rattle.cat_program.specs.declared.syntax.Class.{Class}
+use Rattle.nv_memory.specs.declared.device.Class.{Class}
 use Rattle.cat_program.specs.Places.{tasks_size}
 use Rattle.cat_program.specs.Checked.{Checked, bodies_of}
 use Rattle.nv_memory.specs.declared.device.Device.{Device}

@@ -12,5 +12,6 @@ returns c =
       suits = c.choices_suit.ensures;
       set_up = c.plans_are_set_up.ensures;
       planned = c.plans_are_planned.ensures;
+      forecasts = record { steady = c.steady_law.ensures.choices.forecast; told = c.told_forecasts_are_sound.ensures };
     })
     c.layouts_are_numbers.ensures c.saved_images_fit.ensures

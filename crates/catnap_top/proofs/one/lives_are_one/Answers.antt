@@ -3,7 +3,7 @@ use Rattle.catnap_top.proofs.OneLife.{life_one}
 use Rattle.catnap_top.proofs.one.lives_are_one.Goals as goal
 
 pub returns : goal.returns
-returns c = λ source profile trace arrivals failures files chosen one other told served.
+returns c = λ source profile trace arrivals failures forecast files chosen one other told served.
     life_one
     (record {
       layouts = c.layouts_are_numbers.ensures;
@@ -23,5 +23,6 @@ returns c = λ source profile trace arrivals failures files chosen one other tol
       suits = c.choices_suit.ensures;
       set_up = c.plans_are_set_up.ensures;
       planned = c.plans_are_planned.ensures;
+      forecasts = record { steady = c.steady_law.ensures.choices.forecast; told = c.told_forecasts_are_sound.ensures };
     })
-    source arrivals files (tells_files source profile trace arrivals failures files told) chosen plan served)
+    source arrivals files (tells_files (record { steady = c.steady_law.ensures.choices.forecast; told = c.told_forecasts_are_sound.ensures }) source profile trace arrivals failures forecast files told) chosen plan served)

@@ -1,4 +1,5 @@
-use Rattle.catnap_top.proofs.HeadlineFiles.{is_set_up, tells_files}
+use Rattle.std.proofs.Common.{None}
+use Rattle.catnap_top.proofs.HeadlineFiles.{is_set_up, steady_files, tells_files}
 use Rattle.catnap_top.proofs.OneLife.{rest_one}
 use Rattle.catnap_top.proofs.Resuming.{starts_saved}
 use Rattle.catnap_top.proofs.one.rests_are_one.Goals as goal
@@ -24,6 +25,7 @@ returns c = λ source profile trace arrivals failures image files chosen start o
       suits = c.choices_suit.ensures;
       set_up = c.plans_are_set_up.ensures;
       planned = c.plans_are_planned.ensures;
+      forecasts = record { steady = c.steady_law.ensures.choices.forecast; told = c.told_forecasts_are_sound.ensures };
     })
-    source arrivals files (tells_files source profile trace arrivals failures files told) chosen plan served)
-    (λ goes_on. ((c.starts_belong.ensures files.program goes_on.goes.plan).saved _ (starts_saved c.layouts_are_numbers.ensures c.fit_images_begin.ensures files chosen image start one accepted goes_on)).begins)
+    source arrivals files (tells_files (record { steady = c.steady_law.ensures.choices.forecast; told = c.told_forecasts_are_sound.ensures }) source profile trace arrivals failures None files told) chosen plan served)
+    (λ goes_on. ((c.starts_belong.ensures files.program goes_on.goes.plan).saved _ (starts_saved c.layouts_are_numbers.ensures c.fit_images_begin.ensures files chosen image start one (steady_files source profile trace arrivals failures files told).0 accepted goes_on)).begins)

@@ -20,4 +20,4 @@ pub returns-in-Err-clause-looks : goal.returns-in-Err-clause-looks
 returns-in-Err-clause-looks c =
     let files = c.args.files in
     subst (λ stop. Stops (living files) stop) (sym c.stop_for_replay.ensures)
-    (stops_first _ _ (stop_of_replay c.in-Err.fault) (replay_stops files.program files.device c.in-Err.fault c.in-Err.ensures.refused))
+    (stops_first _ _ (stop_of_replay files.given c.in-Err.fault) (replay_stops files.program files.device files.given files.forecast c.in-Err.fault c.in-Err.ensures.refused))

@@ -1,5 +1,5 @@
 use Rattle.std.proofs.Common.{◌≡◌, ap, ◌∙◌, subst, arith, length}
-use Rattle.catnap_words.specs.declared.form.Form.TheVariants.{Run, List as Listing, Check, Plan, Replay, Image, Resume, Uplink, Object, RunObject, Bench}
+use Rattle.catnap_words.specs.declared.form.Form.TheVariants.{Run, List as Listing, Check, CheckForecast, Plan, Replay, ReplayForecast, Image, Resume, Uplink, Object, RunObject, Bench}
 use Rattle.catnap_words.specs.Words.{file_count}
 use Rattle.catnap_top.specs.Look.{LooksAs}
 use Rattle.catnap_top.specs.Reply.{reply_answer}
@@ -45,6 +45,16 @@ returns-in-Check-clause-looks c =
     looks_as_form c.args.form Check (contents files) c.prepare_check.result c.in-Check.is
     (rw (source, profile) at c.prepare_check.ensures.looks)
 
+pub returns-in-CheckForecast-clause-looks : goal.returns-in-CheckForecast-clause-looks
+returns-in-CheckForecast-clause-looks c =
+    let files = c.args.files.now in
+    let count : length files ≡ 3 = c.requires ∙ ap file_count c.in-CheckForecast.is in
+    let source = file_at files 0 c.index-files-0-in-CheckForecast.result c.as_slice-in-CheckForecast.result.now (omega arith) c.as_slice-in-CheckForecast.ensures.value c.index-files-0-in-CheckForecast.is in
+    let profile = file_at files 1 c.index-files-1-in-CheckForecast.result c.as_slice-in-CheckForecast-2.result.now (omega arith) c.as_slice-in-CheckForecast-2.ensures.value c.index-files-1-in-CheckForecast.is in
+    let forecast = file_at files 2 c.index-files-2.result c.as_slice-in-CheckForecast-3.result.now (omega arith) c.as_slice-in-CheckForecast-3.ensures.value c.index-files-2.is in
+    looks_as_form c.args.form CheckForecast (contents files) c.prepare_check_rows.result c.in-CheckForecast.is
+    (rw (source, profile, forecast) at c.prepare_check_rows.ensures.looks)
+
 pub returns-in-Plan-clause-looks : goal.returns-in-Plan-clause-looks
 returns-in-Plan-clause-looks c =
     let files = c.args.files.now in
@@ -60,11 +70,24 @@ returns-in-Replay-clause-looks c =
     let count : length files ≡ 5 = c.requires ∙ ap file_count c.in-Replay.is in
     let source = file_at files 0 c.index-files-0-in-Replay.result c.as_slice-in-Replay.result.now (omega arith) c.as_slice-in-Replay.ensures.value c.index-files-0-in-Replay.is in
     let profile = file_at files 1 c.index-files-1-in-Replay.result c.as_slice-in-Replay-2.result.now (omega arith) c.as_slice-in-Replay-2.ensures.value c.index-files-1-in-Replay.is in
-    let trace = file_at files 2 c.index-files-2.result c.as_slice-in-Replay-3.result.now (omega arith) c.as_slice-in-Replay-3.ensures.value c.index-files-2.is in
+    let trace = file_at files 2 c.index-files-2-in-Replay.result c.as_slice-in-Replay-3.result.now (omega arith) c.as_slice-in-Replay-3.ensures.value c.index-files-2-in-Replay.is in
     let arrivals = file_at files 3 c.index-files-3.result c.as_slice-in-Replay-4.result.now (omega arith) c.as_slice-in-Replay-4.ensures.value c.index-files-3.is in
     let failures = file_at files 4 c.index-files-4.result c.as_slice-in-Replay-5.result.now (omega arith) c.as_slice-in-Replay-5.ensures.value c.index-files-4.is in
     looks_as_form c.args.form Replay (contents files) c.prepare_replay.result c.in-Replay.is
     (rw (source, profile, trace, arrivals, failures) at c.prepare_replay.ensures.looks)
+
+pub returns-in-ReplayForecast-clause-looks : goal.returns-in-ReplayForecast-clause-looks
+returns-in-ReplayForecast-clause-looks c =
+    let files = c.args.files.now in
+    let count : length files ≡ 6 = c.requires ∙ ap file_count c.in-ReplayForecast.is in
+    let source = file_at files 0 c.index-files-0-in-ReplayForecast.result c.as_slice-in-ReplayForecast.result.now (omega arith) c.as_slice-in-ReplayForecast.ensures.value c.index-files-0-in-ReplayForecast.is in
+    let profile = file_at files 1 c.index-files-1-in-ReplayForecast.result c.as_slice-in-ReplayForecast-2.result.now (omega arith) c.as_slice-in-ReplayForecast-2.ensures.value c.index-files-1-in-ReplayForecast.is in
+    let trace = file_at files 2 c.index-files-2-in-ReplayForecast.result c.as_slice-in-ReplayForecast-3.result.now (omega arith) c.as_slice-in-ReplayForecast-3.ensures.value c.index-files-2-in-ReplayForecast.is in
+    let arrivals = file_at files 3 c.index-files-3-in-ReplayForecast.result c.as_slice-in-ReplayForecast-4.result.now (omega arith) c.as_slice-in-ReplayForecast-4.ensures.value c.index-files-3-in-ReplayForecast.is in
+    let failures = file_at files 4 c.index-files-4-in-ReplayForecast.result c.as_slice-in-ReplayForecast-5.result.now (omega arith) c.as_slice-in-ReplayForecast-5.ensures.value c.index-files-4-in-ReplayForecast.is in
+    let forecast = file_at files 5 c.index-files-5.result c.as_slice-in-ReplayForecast-6.result.now (omega arith) c.as_slice-in-ReplayForecast-6.ensures.value c.index-files-5.is in
+    looks_as_form c.args.form ReplayForecast (contents files) c.prepare_replay-in-ReplayForecast.result c.in-ReplayForecast.is
+    (rw (source, profile, trace, arrivals, failures, forecast) at c.prepare_replay-in-ReplayForecast.ensures.looks)
 
 pub returns-in-Image-clause-looks : goal.returns-in-Image-clause-looks
 returns-in-Image-clause-looks c =
@@ -87,7 +110,7 @@ returns-in-Resume-clause-looks c =
     let trace = file_at files 2 c.index-files-2-in-Resume.result c.as_slice-in-Resume-3.result.now (omega arith) c.as_slice-in-Resume-3.ensures.value c.index-files-2-in-Resume.is in
     let arrivals = file_at files 3 c.index-files-3-in-Resume.result c.as_slice-in-Resume-4.result.now (omega arith) c.as_slice-in-Resume-4.ensures.value c.index-files-3-in-Resume.is in
     let failures = file_at files 4 c.index-files-4-in-Resume.result c.as_slice-in-Resume-5.result.now (omega arith) c.as_slice-in-Resume-5.ensures.value c.index-files-4-in-Resume.is in
-    let image = file_at files 5 c.index-files-5.result c.as_slice-in-Resume-6.result.now (omega arith) c.as_slice-in-Resume-6.ensures.value c.index-files-5.is in
+    let image = file_at files 5 c.index-files-5-in-Resume.result c.as_slice-in-Resume-6.result.now (omega arith) c.as_slice-in-Resume-6.ensures.value c.index-files-5-in-Resume.is in
     looks_as_form c.args.form Resume (contents files) c.prepare_resume.result c.in-Resume.is
     (rw (source, profile, trace, arrivals, failures, image) at c.prepare_resume.ensures.looks)
 

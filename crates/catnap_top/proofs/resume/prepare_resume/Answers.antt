@@ -1,3 +1,4 @@
+use Rattle.std.proofs.Common.{refl}
 use Rattle.catnap_top.specs.Resume.{resuming}
 use Rattle.catnap_top.specs.Reply.{reply_answer}
 use Rattle.catnap_top.specs.Look.{goes}
@@ -14,3 +15,6 @@ returns-in-Ok-clause-looks c = goes c.in_ok-files.files c.in_ok-files.ensures.lo
 
 pub returns-in-Err-clause-looks : goal.returns-in-Err-clause-looks
 returns-in-Err-clause-looks c = stops_next _ _ c.in_ok-files.files c.in-Err.stop c.in_ok-files.ensures.looks c.in-Err.ensures.looks
+
+pub go_on-requires-clause-steady : goal.go_on-requires-clause-steady
+go_on-requires-clause-steady c = c.in_ok-files.ensures.steady refl

@@ -1,33 +1,29 @@
-use Rattle.std.proofs.Common.{ℕ, ◌++◌, List, ◌∙◌, refl, subst, append_assoc}
+use Rattle.std.proofs.Common.{ℕ, ◌++◌, List, ◌∙◌, refl, append_assoc}
 use Rattle.std.proofs.lemmas.Result.{err_from_is_err_and}
-use Rattle.cn_base.specs.Pages.{IsHeld}
 use Rattle.cn_base.specs.PageSums.{adds_cut, adds_on, held_adds}
-use Rattle.cn_base.specs.PageWords.{held_in, sink_in}
+use Rattle.cn_base.specs.PageWords.{held_in}
 use Rattle.cn_base.specs.TextSums.{cut_behind_held}
-use Rattle.cn_base.specs.Writing.{IsCut}
 use Rattle.recovery.specs.Past.{past_of}
-use Rattle.cn_report.specs.Report.{choice_text}
+use Rattle.cn_report.specs.Report.{rows_text}
 use Rattle.cn_report.specs.Story.{dropped_text, story_text}
 use Rattle.cn_report.specs.Whole.{outcome_text, resumed_text}
-use Rattle.cn_report.proofs.Texts.{choice-is}
 use Rattle.cn_report.proofs.report.add_report.Goals as goal
 
-pub returns-in_err-add_chosen-clause-text : goal.returns-in_err-add_chosen-clause-text
-returns-in_err-add_chosen-clause-text g c =
+pub returns-in_err-add_rows-clause-text : goal.returns-in_err-add_rows-clause-text
+returns-in_err-add_rows-clause-text g c =
     let p = err_from_is_err_and c.from_residual.result c.from_residual.ensures.1 in
     let past = past_of c.args.layout.now (g.B.Board.start (g.B.Board.origin c.args.board.now)) (g.B.Board.state c.args.board.now) in
     let state = g.B.Board.state c.args.board.now in
     let program = c.args.program.now in
     let lists = c.args.arrivals.now in
-    let choice : List ℕ = choice_text program.headers c.args.chosen.now in
+    let choice : List ℕ = rows_text program.headers c.args.shown c.args.forecast.now c.args.chosen.now in
     let dropped : List ℕ = dropped_text program.headers lists.dropped in
     let outcome : List ℕ = outcome_text program.headers program.variables lists past c.args.from state.tick state.stored c.args.end in
-    let whole : List ℕ = resumed_text program.headers program.variables c.args.chosen.now lists past c.args.from state.tick state.stored c.args.end in
-    let same = choice-is program c.args.chosen.now c.bodies-checked.ensures.checked in
+    let whole : List ℕ = resumed_text program.headers program.variables c.args.shown c.args.forecast.now c.args.chosen.now lists past c.args.from state.tick state.stored c.args.end in
     let page = c.args.page.now in
-    let one = c.add_chosen.new.page in
+    let one = c.add_rows.new.page in
     rw p.1 (cut_behind_held _ _ (held_in page) choice (dropped ++ (story_text past ++ outcome))
-    (subst (λ t. IsCut (g.K.Sink.written (sink_in page)) (g.K.Sink.written (sink_in one)) (held_in page ++ t)) same c.in_err-add_chosen.ensures.text))
+    c.in_err-add_rows.ensures.text)
 
 pub returns-in_err-add_dropped-clause-text : goal.returns-in_err-add_dropped-clause-text
 returns-in_err-add_dropped-clause-text g c =
@@ -36,14 +32,13 @@ returns-in_err-add_dropped-clause-text g c =
     let state = g.B.Board.state c.args.board.now in
     let program = c.args.program.now in
     let lists = c.args.arrivals.now in
-    let choice : List ℕ = choice_text program.headers c.args.chosen.now in
+    let choice : List ℕ = rows_text program.headers c.args.shown c.args.forecast.now c.args.chosen.now in
     let dropped : List ℕ = dropped_text program.headers lists.dropped in
     let outcome : List ℕ = outcome_text program.headers program.variables lists past c.args.from state.tick state.stored c.args.end in
-    let whole : List ℕ = resumed_text program.headers program.variables c.args.chosen.now lists past c.args.from state.tick state.stored c.args.end in
-    let same = choice-is program c.args.chosen.now c.bodies-checked.ensures.checked in
+    let whole : List ℕ = resumed_text program.headers program.variables c.args.shown c.args.forecast.now c.args.chosen.now lists past c.args.from state.tick state.stored c.args.end in
     let page = c.args.page.now in
-    let one = c.add_chosen.new.page in
-    let first = subst (λ t. IsHeld (g.K.Sink.written (sink_in page)) (g.K.Sink.written (sink_in one)) (held_in page ++ t) (held_in one)) same c.in_ok-add_chosen.ensures.text in
+    let one = c.add_rows.new.page in
+    let first = c.in_ok-add_rows.ensures.text in
     rw p.1 (adds_cut _ _ _ _ _ choice dropped (story_text past ++ outcome) whole refl first c.in_err-add_dropped.ensures.text)
 
 pub returns-in_err-add_story-clause-text : goal.returns-in_err-add_story-clause-text
@@ -53,14 +48,13 @@ returns-in_err-add_story-clause-text g c =
     let state = g.B.Board.state c.args.board.now in
     let program = c.args.program.now in
     let lists = c.args.arrivals.now in
-    let choice : List ℕ = choice_text program.headers c.args.chosen.now in
+    let choice : List ℕ = rows_text program.headers c.args.shown c.args.forecast.now c.args.chosen.now in
     let dropped : List ℕ = dropped_text program.headers lists.dropped in
     let outcome : List ℕ = outcome_text program.headers program.variables lists past c.args.from state.tick state.stored c.args.end in
-    let whole : List ℕ = resumed_text program.headers program.variables c.args.chosen.now lists past c.args.from state.tick state.stored c.args.end in
-    let same = choice-is program c.args.chosen.now c.bodies-checked.ensures.checked in
+    let whole : List ℕ = resumed_text program.headers program.variables c.args.shown c.args.forecast.now c.args.chosen.now lists past c.args.from state.tick state.stored c.args.end in
     let page = c.args.page.now in
-    let one = c.add_chosen.new.page in
-    let first = subst (λ t. IsHeld (g.K.Sink.written (sink_in page)) (g.K.Sink.written (sink_in one)) (held_in page ++ t) (held_in one)) same c.in_ok-add_chosen.ensures.text in
+    let one = c.add_rows.new.page in
+    let first = c.in_ok-add_rows.ensures.text in
     let second = held_adds _ _ _ _ _ _ choice dropped (choice ++ dropped) refl first c.in_ok-add_dropped.ensures.text in
     rw p.1 (adds_cut _ _ _ _ _ (choice ++ dropped) (story_text past) outcome whole (append_assoc choice dropped (story_text past ++ outcome)) second c.in_err-add_story.ensures.text)
 
@@ -70,14 +64,13 @@ returns-clause-text g c =
     let state = g.B.Board.state c.args.board.now in
     let program = c.args.program.now in
     let lists = c.args.arrivals.now in
-    let choice : List ℕ = choice_text program.headers c.args.chosen.now in
+    let choice : List ℕ = rows_text program.headers c.args.shown c.args.forecast.now c.args.chosen.now in
     let dropped : List ℕ = dropped_text program.headers lists.dropped in
     let outcome : List ℕ = outcome_text program.headers program.variables lists past c.args.from state.tick state.stored c.args.end in
-    let whole : List ℕ = resumed_text program.headers program.variables c.args.chosen.now lists past c.args.from state.tick state.stored c.args.end in
-    let same = choice-is program c.args.chosen.now c.bodies-checked.ensures.checked in
+    let whole : List ℕ = resumed_text program.headers program.variables c.args.shown c.args.forecast.now c.args.chosen.now lists past c.args.from state.tick state.stored c.args.end in
     let page = c.args.page.now in
-    let one = c.add_chosen.new.page in
-    let first = subst (λ t. IsHeld (g.K.Sink.written (sink_in page)) (g.K.Sink.written (sink_in one)) (held_in page ++ t) (held_in one)) same c.in_ok-add_chosen.ensures.text in
+    let one = c.add_rows.new.page in
+    let first = c.in_ok-add_rows.ensures.text in
     let second = held_adds _ _ _ _ _ _ choice dropped (choice ++ dropped) refl first c.in_ok-add_dropped.ensures.text in
     let third = held_adds _ _ _ _ _ _ (choice ++ dropped) (story_text past) ((choice ++ dropped) ++ story_text past) refl second c.in_ok-add_story.ensures.text in
     adds_on _ _ _ _ _ _ ((choice ++ dropped) ++ story_text past) outcome whole c.add_outcome.result

@@ -11,7 +11,7 @@ use Rattle.recovery.specs.Past.{past_of, image_at, committed_at}
 use Rattle.cn_report.specs.Story.{entry_line, moment_line}
 use Rattle.cn_report.specs.Windows.{AreHeads}
 use Rattle.cn_report.proofs.Moments.{committed-is, heads-more, image-none, moment-is}
-use Rattle.cn_report.proofs.Sleeping.{same_image, same_text}
+use Rattle.cn_report.proofs.Silence.{same_image, same_text}
 use Rattle.cn_report.proofs.story.add_story.Goals as goal
 
 pub loop-place-init : goal.loop-place-init
@@ -30,11 +30,11 @@ returns-in_err-add_entry-clause-text g c =
     let p = err_from_is_err_and c.from_residual.result c.from_residual.ensures.1 in
     let past = past_of c.args.layout.now (g.B.Board.start (g.B.Board.origin c.args.board.now)) (g.B.Board.state c.args.board.now) in
     let here = c.loop-place.place in
-    let k = c.last_asleep-last.result in
-    let rests = c.last_asleep-last.ensures in
-    let before = subst (λ (image : List ℕ). AreHeads c.args.layout.now image c.loop-place.heads) (same_image past here k rests.later rests.asleep) c.loop-place.invariant.heads in
+    let k = c.last_silent-last.result in
+    let rests = c.last_silent-last.ensures in
+    let before = subst (λ (image : List ℕ). AreHeads c.args.layout.now image c.loop-place.heads) (same_image past here k rests.later rests.silent) c.loop-place.invariant.heads in
     let text = subst (λ t. IsHeld (g.K.Sink.written (sink_in c.args.page.now)) (g.K.Sink.written (sink_in c.loop-place.page)) (held_in c.args.page.now ++ t) (held_in c.loop-place.page))
-    (same_text past here k rests.later rests.asleep) c.loop-place.invariant.text in
+    (same_text past here k rests.later rests.silent) c.loop-place.invariant.text in
     let slot : Slot = committed_at past (k + 1) in
     let entry = c.entry-entry.result in
     let heads = heads-more past k entry c.follow.new.self c.entry-entry.ensures.value (c.follow.ensures (image_at past k) before) in
@@ -46,11 +46,11 @@ pub loop-place-preserved : goal.loop-place-preserved
 loop-place-preserved g c =
     let past = past_of c.args.layout.now (g.B.Board.start (g.B.Board.origin c.args.board.now)) (g.B.Board.state c.args.board.now) in
     let here = c.loop-place.place in
-    let k = c.last_asleep-last.result in
-    let rests = c.last_asleep-last.ensures in
-    let before = subst (λ (image : List ℕ). AreHeads c.args.layout.now image c.loop-place.heads) (same_image past here k rests.later rests.asleep) c.loop-place.invariant.heads in
+    let k = c.last_silent-last.result in
+    let rests = c.last_silent-last.ensures in
+    let before = subst (λ (image : List ℕ). AreHeads c.args.layout.now image c.loop-place.heads) (same_image past here k rests.later rests.silent) c.loop-place.invariant.heads in
     let text = subst (λ t. IsHeld (g.K.Sink.written (sink_in c.args.page.now)) (g.K.Sink.written (sink_in c.loop-place.page)) (held_in c.args.page.now ++ t) (held_in c.loop-place.page))
-    (same_text past here k rests.later rests.asleep) c.loop-place.invariant.text in
+    (same_text past here k rests.later rests.silent) c.loop-place.invariant.text in
     let slot : Slot = committed_at past (k + 1) in
     let entry = c.entry-entry.result in
     let heads = heads-more past k entry c.follow.new.self c.entry-entry.ensures.value (c.follow.ensures (image_at past k) before) in

@@ -6,12 +6,12 @@ use Rattle.cn_report.proofs.tallying.tally.Goals as goal
 
 pub recover-requires-clause-image : goal.recover-requires-clause-image
 recover-requires-clause-image g c =
-    image-long c.args.layout.now (g.B.Board.start (g.B.Board.origin c.args.board.now)) (g.B.Board.state c.args.board.now) c.entries-sound.ensures.sound
+    image-long c.args.layout.now (g.B.Board.start (g.B.Board.origin c.args.board.now)) (g.B.Board.state c.args.board.now) c.losses-lost.ensures.sound
     (fresh-long c.args.program.now c.args.layout.now (g.B.Board.start (g.B.Board.origin c.args.board.now)).image c.requires.fresh)
 
 pub recover-requires-clause-formed : goal.recover-requires-clause-formed
 recover-requires-clause-formed g c =
-    image-formed c.args.program.now c.args.layout.now (g.B.Board.start (g.B.Board.origin c.args.board.now)) (g.B.Board.state c.args.board.now) c.entries-sound.ensures.sound c.requires.replayed
+    image-formed c.args.program.now c.args.layout.now (g.B.Board.start (g.B.Board.origin c.args.board.now)) (g.B.Board.state c.args.board.now) c.losses-lost.ensures.sound c.requires.replayed
 
 pub count_log-counts-requires-clause-large : goal.count_log-counts-requires-clause-large
 count_log-counts-requires-clause-large g c = fresh-long c.args.program.now c.args.layout.now (g.B.Board.start (g.B.Board.origin c.args.board.now)).image c.requires.fresh
@@ -25,5 +25,5 @@ count_log-counts-requires-clause-heads g c = c.fresh.ensures c.args.program.now 
 
 pub count_log-counts-requires-clause-len : goal.count_log-counts-requires-clause-len
 count_log-counts-requires-clause-len g c =
-    let slot = slot-is c.args.program.now c.args.layout.now (g.B.Board.start (g.B.Board.origin c.args.board.now)) (g.B.Board.state c.args.board.now) c.entries-sound.ensures.sound c.requires.replayed in
+    let slot = slot-is c.args.program.now c.args.layout.now (g.B.Board.start (g.B.Board.origin c.args.board.now)) (g.B.Board.state c.args.board.now) c.losses-lost.ensures.sound c.requires.replayed in
     ap (λ (s : Slot). s.len) (c.recover.ensures ∙ slot)

@@ -1,25 +1,25 @@
-use Rattle.std.proofs.Common.{◌∙◌, ◌+◌, ◌<◌, ◌++◌, [], ◌∷◌, length, take, drop, arith, ap}
+use Rattle.std.proofs.Common.{◌∙◌, ◌+◌, take, drop, arith}
 use Rattle.cn_base.specs.PageSums.{adds_cut, held_adds}
-use Rattle.cn_resume.proofs.Taken.{one_more, and_the_rest}
+use Rattle.nv_memory.specs.Bytes.{bytes_at}
+use Rattle.cn_resume.proofs.Taken.{more, and_the_rest}
 use Rattle.cn_resume.proofs.saving.add_image.Goals as goal
 
 pub returns-in-Err-clause-text : goal.returns-in-Err-clause-text
 returns-in-Err-clause-text g c =
     let image = (g.B.Board.state c.args.board.now).image in
-    let at = c.loop-at.at in
-    let lt : at < length image = omega (arith, c.loop-at-test.true, c.size-at-end.ensures.value) in
-    adds_cut _ _ _ _ _ (take at image) (c.read.result ∷ []) (drop (at + 1) image) image
-    (ap (λ byte. take at image ++ (byte ∷ [] ++ drop (at + 1) image)) c.read.ensures.value ∙ and_the_rest image at lt)
-    c.loop-at.invariant.1 c.in-Err.ensures.text
+    let from = c.loop-from.from in
+    let count = c.min-count.result in
+    adds_cut _ _ _ _ _ (take from image) (bytes_at from count image) (drop (from + count) image) image (and_the_rest image from count)
+    c.loop-from.invariant.text c.in-Err.ensures.text
 
-pub loop-at-preserved : goal.loop-at-preserved
-loop-at-preserved g c =
+pub loop-from-preserved : goal.loop-from-preserved
+loop-from-preserved g c =
     let image = (g.B.Board.state c.args.board.now).image in
-    let at = c.loop-at.at in
-    let lt : at < length image = omega (arith, c.loop-at-test.true, c.size-at-end.ensures.value) in (
-      c.in-Ok.ensures.same_sink ∙ c.loop-at.invariant.0,
-      held_adds _ _ _ _ _ _ (take at image) (c.read.result ∷ []) (take (at + 1) image)
-          (ap (λ byte. take at image ++ byte ∷ []) c.read.ensures.value ∙ one_more image at lt)
-          c.loop-at.invariant.1 c.in-Ok.ensures.text,
-      c.in-Ok.ensures.cause.kept ∙ c.loop-at.invariant.2,
-    )
+    let from = c.loop-from.from in
+    let count = c.min-count.result in
+    record {
+      within = omega arith;
+      same_sink = c.in-Ok.ensures.same_sink ∙ c.loop-from.invariant.same_sink;
+      text = held_adds _ _ _ _ _ _ (take from image) (bytes_at from count image) (take (from + count) image) (more image from count) c.loop-from.invariant.text c.in-Ok.ensures.text;
+      faults = c.in-Ok.ensures.cause.kept ∙ c.loop-from.invariant.faults;
+    }

@@ -7,6 +7,7 @@ pub returns-clause-refused : goal.returns-clause-refused
 returns-clause-refused c =
     let p = c.args.program.now in
     let d = c.args.device.now in
-    subst (λ fault. IsRefused p d fault) (sym c.from.ensures)
-    (refused p d c.args.layout.now c.lines-lines.result c.in_ok-bounds.bounds c.in-Err.fault c.requires.layout c.lines-lines.ensures.value
+    let f = c.args.forecast.now in
+    subst (λ fault. IsRefused p d f fault) (sym c.from.ensures)
+    (refused p d f c.args.layout.now c.lines-lines.result c.in_ok-bounds.bounds c.in-Err.fault c.requires.layout c.lines-lines.ensures.value
     c.in_ok-bounds.ensures.greatest c.in-Err.ensures.refused)

@@ -3,6 +3,7 @@ use Rattle.cat_program.specs.Checked.{Checked}
 use Rattle.cat_machine.specs.Fits.{Fits}
 use Rattle.cat_machine.specs.Machine.{Ended', until}
 use Rattle.nv_memory.specs.Layout.{size_of}
+use Rattle.cn_scheduler.specs.Floor.{HoldsFloor}
 use Rattle.cn_scheduler.proofs.Going.{Onward}
 use Rattle.cn_scheduler.proofs.path.run_path.Given as goal
 
@@ -15,6 +16,7 @@ invariant-turns g l =
       kept : l.working.kept ≡ l.fn.working.kept;
       on : (g.B.Board.state l.board).on ≡ true;
       image : size_of l.plan.layout ≤ length (g.B.Board.state l.board).image;
+      floor : HoldsFloor l.plan l.floor (g.B.Board.state l.board).tick;
       few : l.len ≤ l.plan.layout.log;
       origin : g.B.Board.origin l.board ≡ g.B.Board.origin l.fn.board;
     }

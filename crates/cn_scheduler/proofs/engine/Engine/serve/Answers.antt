@@ -38,7 +38,7 @@ returns-in-Lost-clause-serves g c =
       is_handler = is_handler plan program e old due c.requires.rest b next c.runs_end.ensures entry.0 entry.1;
       asked = at_wake plan program e old due c.requires.rest b next (whole_job plan program e old due c.requires.rest b next c.runs_end.ensures entry.0 entry.1).run Lost (g.B.Board.state c.wake_up.new.board) (λ no. cc) (c.in-Lost.ensures.woken plan);
       ended = λ no. cc;
-      entry = subst EntryFits ran_is c.ran-entry.ensures.fits;
+      entry = subst (EntryFits plan.layout) ran_is (c.ran-entry.ensures.fits plan.layout);
       slot = refl;
     }
 
@@ -58,7 +58,7 @@ returns-in-Over-clause-serves g c =
       is_handler = is_handler plan program e old due c.requires.rest b next c.runs_end.ensures entry.0 entry.1;
       asked = at_wake plan program e old due c.requires.rest b next (whole_job plan program e old due c.requires.rest b next c.runs_end.ensures entry.0 entry.1).run Over (g.B.Board.state c.wake_up.new.board) (λ no. cc) (c.in-Over.ensures.woken plan);
       ended = λ no. cc;
-      entry = subst EntryFits ran_is c.ran-entry.ensures.fits;
+      entry = subst (EntryFits plan.layout) ran_is (c.ran-entry.ensures.fits plan.layout);
       slot = refl;
     }
 
@@ -120,7 +120,7 @@ returns-in_default-clause-serves g c =
       is_handler = is_handler plan program e old due c.requires.rest b next c.runs_end.ensures entry at;
       asked = at_path plan program e old due c.requires.rest b next w.run c.run_path.result (g.B.Board.state c.wake_up.new.board) (g.B.Board.state c.run_path.new.board) c.in_default.not-Ended (c.in-Done.ensures.woken plan) leaves.asked;
       ended = λ e. absurd (c.in_default.not-Ended e);
-      entry = subst EntryFits ran_is c.ran-entry.ensures.fits;
+      entry = subst (EntryFits plan.layout) ran_is (c.ran-entry.ensures.fits plan.layout);
       slot = refl;
     }
 
@@ -170,7 +170,7 @@ returns-clause-serves g c =
       asked = at_record plan program e old due c.requires.rest b next w.run c.put.result (g.B.Board.state c.wake_up.new.board) last new (c.in-Done.ensures.woken plan) leaves.asked
           (once_asked (no_floor plan) l.log (recording l (e.slot.len + length (run_outs w.run)) (ran_of plan (point_of e old) due) by.Write) c.put.result last new refl (omega arith) asked);
       ended = λ is. record { held_is = end.held_is; len_is = omega (arith, c.put.ensures.len is, end.len_is); on = c.put.ensures.on is; fits = end.fits };
-      entry = subst EntryFits ran_is c.ran-entry.ensures.fits;
+      entry = subst (EntryFits plan.layout) ran_is (c.ran-entry.ensures.fits plan.layout);
       slot = refl;
     }
 

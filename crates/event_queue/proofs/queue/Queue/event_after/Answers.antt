@@ -1,28 +1,17 @@
-use Rattle.std.proofs.Common.{◌≡◌, ◌+◌, ◌-◌, ◌/◌, ◌≤◌, ◌<◌, ◌⊎◌, inl, inr, Option, Some, None, refl, sym, subst, ◌∙◌, ap, arith, rules, true, false}
-use Rattle.std.proofs.lemmas.Bool.{cases_lt}
-use Rattle.harvest_trace.specs.Timeline.{life_of}
-use Rattle.cn_base.specs.declared.TheConstants.{MOST_TICKS}
+use Rattle.std.proofs.Common.{◌≡◌, ◌+◌, ◌-◌, ◌/◌, Some, None, sym, subst, ◌∙◌, arith}
 use Rattle.event_arrivals.specs.Arrivals.{arrival_at}
 use Rattle.event_arrivals.specs.Spaced.{AreSound}
 use Rattle.event_queue.specs.Queue.{QueueValue}
-use Rattle.event_queue.proofs.Ticks.{come_to, high_later, later_at, tick_none, tick_some}
+use Rattle.event_queue.proofs.Ticks.{come_to, later_at, tick_none, tick_some}
 use Rattle.event_queue.proofs.queue.Queue.event_after.Goals as goal
 
 pub halves-init : goal.halves-init
-halves-init c =
-    let lists = c.args.self.now.arrivals in
-    let sound : AreSound lists = subst (λ (q : QueueValue). AreSound q.arrivals) c.self.view_is c.are_sound.ensures.sound in
-    let bounded : life_of lists.trace ≤ MOST_TICKS = subst (λ (q : QueueValue). life_of q.arrivals.trace ≤ MOST_TICKS) c.self.view_is c.are_sound.ensures.bounded in
-    let far : (c.args.now + 1 ≤ c.max-high.result) ⊎ (4294967295 ≤ c.max-high.result) = elim (cases_lt c.args.now 4294967295) [
-      | inl less ↦ inl (omega (arith, less, c.max-high.ensures, c.saturating_add.ensures))
-      | inr last ↦ inr (omega (arith, last, c.max-high.ensures, c.saturating_add.ensures))
-    ] in
-    record {
-      from = omega arith;
-      some = omega (arith, c.max-high.ensures);
-      come = λ k arrival from below is. absurd (let never : ⊥ = omega (arith, from, below) in never);
-      later = high_later lists sound bounded c.args.now c.args.event c.max-high.result far;
-    }
+halves-init c = record {
+  from = omega arith;
+  some = c.index_to_come-high.ensures.from;
+  come = λ k arrival from below is. absurd (let never : ⊥ = omega (arith, from, below) in never);
+  later = c.index_to_come-high.ensures.later;
+}
 
 pub halves-preserved-then-has_come : goal.halves-preserved-then-has_come
 halves-preserved-then-has_come c =

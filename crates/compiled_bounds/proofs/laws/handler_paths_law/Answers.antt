@@ -1,5 +1,0 @@
-use Rattle.compiled_bounds.proofs.Programs.{handler_greatest}
-use Rattle.compiled_bounds.proofs.laws.handler_paths_law.Goals as goal
-
-pub returns : goal.returns
-returns c = λ u p checked. handler_greatest c.code_is_laid_out.ensures u p checked

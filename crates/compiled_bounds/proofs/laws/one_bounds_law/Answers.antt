@@ -1,5 +1,0 @@
-use Rattle.compiled_bounds.proofs.Once.{one_bounds}
-use Rattle.compiled_bounds.proofs.laws.one_bounds_law.Goals as goal
-
-pub returns : goal.returns
-returns c = one_bounds

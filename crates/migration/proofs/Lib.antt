@@ -1,0 +1,5 @@
+pub mod Brought
+pub mod Upto
+pub mod Records
+pub mod Lines
+pub mod Whole
