@@ -196,7 +196,11 @@ fn entry_of(
             value: first.cast_signed(),
         });
     }
-    let most = if layout.is_old() { 4_294_967_295 } else { 4_000_000 };
+    let most = if layout.is_old() {
+        4_294_967_295
+    } else {
+        4_000_000
+    };
     if kind == 2 && c == 0 && second <= most && has_version(program, a, b) {
         return Some(LogEntry::Ran {
             event: a,

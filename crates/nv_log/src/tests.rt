@@ -24,6 +24,8 @@ fn layout() -> Layout {
         tasks: 1,
         events: 0,
         log: 2,
+        format: 1,
+        base: 64,
     }
 }
 

@@ -78,6 +78,6 @@ loop-i-preserved g c =
     c.in-Done.ensures.image refl ∙ (λ j. written (at_is j) (bytes_are j) now.image) in
     record {
       upto = one_more W c.runs_are_joined.ensures (line_part o n image) old i now c.loop-i.invariant.upto new (first W P o n image R.layouts R.image c.args.s R.selected R.slot i all) (next W P o n image R.layouts R.image c.args.s R.selected R.slot i all)
-      (omega (arith, within W P o n image R.layouts R.image c.args.s R.selected R.slot i all, c.loop-i.invariant.upto.size)) run image_is (c.in-Done.ensures.on refl);
+          (omega (arith, within W P o n image R.layouts R.image c.args.s R.selected R.slot i all, c.loop-i.invariant.upto.size)) run image_is (c.in-Done.ensures.on refl);
       same_origin = c.in-Done.ensures.origin ∙ c.loop-i.invariant.same_origin;
     }
