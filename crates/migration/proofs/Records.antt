@@ -1,9 +1,9 @@
 -- The records that a move brings over.
-use Rattle.std.proofs.Common.{◌≡◌, ℕ, zero, suc, ◌+◌, ◌*◌, ◌≤◌, ◌<◌, List, length, take, drop, refl, sym, ◌∙◌, ap, subst, arith}
+use Rattle.std.proofs.Common.{◌≡◌, ℕ, ◌+◌, ◌≤◌, ◌<◌, List, length, take, sym, ◌∙◌, ap, arith}
 use Rattle.cat_program.specs.declared.outs.LogEntry.{LogEntry}
 use Rattle.nv_memory.specs.declared.layout.Layout.{Layout}
 use Rattle.nv_memory.specs.Formats.{record_size}
-use Rattle.nv_memory.specs.Layout.{lines_of, log_at, record_at, record_len, size_of}
+use Rattle.nv_memory.specs.Layout.{log_at, record_at, record_len, size_of}
 use Rattle.nv_memory.specs.Laws.{WritesAreLocal, PartsAreApart}
 use Rattle.nv_log.specs.Append.{EntriesAreSpelledOnce}
 use Rattle.nv_log.specs.Record.{EntryFits, entry_of, record_bytes, record_of}
@@ -36,7 +36,7 @@ module _ (writes : WritesAreLocal) (parts : (l : Layout) → PartsAreApart l) (s
     pub bytes_are : record_of new (can.forms k below).0 ≡ (part k).bytes
     bytes_are = let form = can.forms k below in ap (record_of new) (sym (ap (entry_of old) form.3 ∙ again old form.0 form.2))
 
-    long : length (part k).bytes ≡ record_len new
+    pub long : length (part k).bytes ≡ record_len new
     long = spelled.length_is new (entry_of old (record_bytes old k image))
 
     pub some : 1 ≤ length (part k).bytes

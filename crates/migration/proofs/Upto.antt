@@ -1,5 +1,5 @@
 -- How far the parts of a move have been brought to their places.
-use Rattle.std.proofs.Common.{◌≡◌, ◌≢◌, ℕ, zero, suc, ◌+◌, ◌-◌, ◌≤◌, ◌<◌, Bool, true, false, List, [], ◌∷◌, ◌++◌, length, map, take, drop, refl, sym, ◌∙◌, ap, subst, arith, append_assoc}
+use Rattle.std.proofs.Common.{◌≡◌, ◌≢◌, ℕ, zero, suc, ◌+◌, ◌-◌, ◌≤◌, ◌<◌, true, List, [], ◌∷◌, ◌++◌, length, map, take, drop, refl, sym, ◌∙◌, ap, subst, arith, append_assoc}
 use Rattle.std.specs.Prelude.{if◌then◌else◌}
 use Rattle.std.specs.List.{range_with_len}
 use Rattle.std.proofs.lemmas.List.{drop-drop, append-nil}
@@ -7,7 +7,7 @@ use Rattle.std.proofs.lemmas.List.FromFn.{map-range_with_len_more}
 use Rattle.nv_memory.specs.declared.entry.Op.{Op}
 use Rattle.nv_memory.specs.declared.entry.Op.TheVariants.{Write}
 use Rattle.nv_memory.specs.declared.board.Answer.{Answer}
-use Rattle.nv_memory.specs.declared.board.Answer.TheVariants.{Done, Lost, Over}
+use Rattle.nv_memory.specs.declared.board.Answer.TheVariants.{Done}
 use Rattle.nv_memory.specs.Bytes.{written, bytes_at}
 use Rattle.nv_memory.specs.Board.{State, Runs}
 use Rattle.nv_memory.specs.Laws.{WritesAreLocal, RunsAreJoined}

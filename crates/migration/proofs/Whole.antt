@@ -1,5 +1,5 @@
 -- The runs of a whole move.
-use Rattle.std.proofs.Common.{◌≡◌, ◌≢◌, ℕ, List, [], ◌∷◌, ◌++◌, sym, ◌∙◌, ap, subst, append_assoc}
+use Rattle.std.proofs.Common.{◌≡◌, ◌≢◌, List, [], ◌∷◌, ◌++◌, sym, ◌∙◌, ap, subst, append_assoc}
 use Rattle.nv_memory.specs.declared.layout.Layout.{Layout}
 use Rattle.nv_memory.specs.declared.entry.Op.{Op}
 use Rattle.nv_memory.specs.declared.board.Answer.{Answer}

@@ -1,4 +1,5 @@
-ghost use Rattle.std.specs.Prelude.{◌≤◌};
+ghost use Rattle.std.specs.Prelude.{◌≡◌, ◌≤◌};
+ghost use Rattle.nv_log.specs.Record.{EntryFits};
 
 use super::*;
 use cat_program::LogEntry;
@@ -18,7 +19,9 @@ fn cost(ticks: u32, units: u32) -> Cost
     }
 }
 
-fn layout() -> Layout {
+fn layout() -> Layout
+    ensures old { result.format ≡ 1 }
+{
     Layout {
         words: 1,
         tasks: 1,
@@ -53,7 +56,9 @@ fn appended(
     place: u32,
     entry: &LogEntry,
     by: By,
-) -> Option<Put> {
+) -> Option<Put>
+    requires fits { EntryFits layout.now entry.now }
+{
     if !board.on() || board.size() < layout.size() || place > layout.log {
         return None;
     }

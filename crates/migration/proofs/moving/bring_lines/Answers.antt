@@ -1,12 +1,11 @@
-use Rattle.std.proofs.Common.{◌≡◌, ◌≢◌, ◌+◌, ◌*◌, ◌≤◌, ◌<◌, ℕ, List, length, map, take, refl, sym, ◌∙◌, ap, subst, arith}
-use Rattle.std.specs.List.{range_with_len}
+use Rattle.std.proofs.Common.{◌≡◌, ◌+◌, ◌*◌, ◌<◌, ℕ, List, refl, ◌∙◌, ap, subst, arith}
 use Rattle.nv_memory.specs.declared.board.Answer.{Answer}
-use Rattle.nv_memory.specs.declared.board.Answer.TheVariants.{Done, Lost, Over}
+use Rattle.nv_memory.specs.declared.board.Answer.TheVariants.{Lost, Over}
 use Rattle.nv_memory.specs.Board.{Runs}
 use Rattle.nv_memory.specs.Bytes.{written, bytes_at}
 use Rattle.nv_memory.specs.Layout.{lines_of, slot_at}
-use Rattle.migration.specs.Moves.{line_part, missing, writes_of}
-use Rattle.migration.proofs.Upto.{IsUpto, none_yet, one_more, stopped}
+use Rattle.migration.specs.Moves.{line_part, missing}
+use Rattle.migration.proofs.Upto.{one_more, stopped}
 use Rattle.migration.proofs.Lines.{first, next, new_is, within, spells}
 use Rattle.migration.proofs.moving.bring_lines.Goals as goal
 

@@ -1,15 +1,14 @@
-use Rattle.std.proofs.Common.{◌≡◌, ◌≢◌, ◌+◌, ◌*◌, ◌≤◌, ◌<◌, ℕ, List, length, take, refl, sym, ◌∙◌, ap, subst, arith}
-use Rattle.nv_memory.specs.declared.layout.Layout.{Layout}
+use Rattle.std.proofs.Common.{◌≡◌, ◌+◌, ◌*◌, ◌<◌, ℕ, List, length, refl, ◌∙◌, ap, subst, arith}
 use Rattle.std.specs.Prelude.{map}
 use Rattle.std.specs.List.{range_with_len}
 use Rattle.nv_memory.specs.declared.board.Answer.{Answer}
-use Rattle.nv_memory.specs.declared.board.Answer.TheVariants.{Done, Lost, Over}
-use Rattle.nv_memory.specs.Board.{Runs, State}
+use Rattle.nv_memory.specs.declared.board.Answer.TheVariants.{Lost, Over}
+use Rattle.nv_memory.specs.Board.{Runs}
 use Rattle.nv_memory.specs.Bytes.{written}
-use Rattle.nv_memory.specs.Layout.{log_at, record_at}
-use Rattle.migration.specs.Moves.{Part, len_in, missing, record_part, writes_of}
-use Rattle.migration.proofs.Upto.{IsUpto, none_yet, one_more, stopped}
-use Rattle.migration.proofs.Records.{first_at, in_image, in_old, some, first, next, within, spells}
+use Rattle.nv_memory.specs.Layout.{record_at}
+use Rattle.migration.specs.Moves.{len_in, missing, record_part, writes_of}
+use Rattle.migration.proofs.Upto.{none_yet, one_more, stopped}
+use Rattle.migration.proofs.Records.{in_image, some, first, next, within, spells}
 use Rattle.migration.proofs.moving.bring_records.Goals as goal
 
 pub loop-k-init : goal.loop-k-init

@@ -1,4 +1,4 @@
-use Rattle.std.proofs.Common.{◌≡◌, ◌≢◌, ◌<◌, ◌≤◌, ℕ, List, length, take, refl, sym, ◌∙◌, ap, subst, arith}
+use Rattle.std.proofs.Common.{List, refl, subst}
 use Rattle.nv_memory.specs.declared.board.Answer.{Answer}
 use Rattle.nv_memory.specs.declared.board.Answer.TheVariants.{Done, Lost, Over}
 use Rattle.nv_memory.specs.declared.entry.Op.{Op}

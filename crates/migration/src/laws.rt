@@ -1,0 +1,15 @@
+ghost use Rattle.migration.specs.Laws.{MovesAreSafe};
+
+use nv_log::{entries_are_spelled_once, records_are_read_again};
+use nv_memory::{parts_are_apart, writes_are_local};
+
+/// After each write of a move, done or lost, the image stands for what it stood for, by the layout that its format byte tells; so a move
+/// that was stopped can begin anew.
+pub fn moves_are_safe()
+    ensures { MovesAreSafe }
+{
+    writes_are_local();
+    parts_are_apart();
+    entries_are_spelled_once();
+    records_are_read_again();
+}
