@@ -47,6 +47,8 @@ module _ (code : SameCode) (x y : ReplayFiles) (same : AreSameFiles x y) where
           tasks = is.layout_is.tasks ∙ ap (λ tasks. length tasks) alike.tasks;
           events = is.layout_is.events ∙ ap (λ events. length events) alike.events;
           log = is.layout_is.log ∙ ap (λ (d : Device). d.log) same.device;
+          format = is.layout_is.format;
+          base = is.layout_is.base;
         };
       }
 
