@@ -6,3 +6,5 @@ pub mod Whole
 pub mod Kept
 pub mod Standing
 pub mod Safe
+pub mod Told
+pub mod Stretching

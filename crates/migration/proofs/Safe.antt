@@ -1,12 +1,13 @@
 -- What an image stands for after the writes of a move, wherever they stop.
 use Rattle.std.proofs.Common.{◌≡◌, inl, inr, ℕ, zero, suc, ◌+◌, ◌*◌, ◌%◌, ◌==◌, ◌≤◌, ◌<◌, Bool, true, false, List, [], ◌∷◌, length, get_or, take, drop, refl, sym, ◌∙◌, ap, subst, arith}
 use Rattle.std.specs.Prelude.{slice_index, if◌then◌else◌}
-use Rattle.std.proofs.lemmas.List.{get_or-take, get_or-drop}
+use Rattle.std.proofs.lemmas.List.{get_or-take, get_or-drop, take_all}
 use Rattle.std.proofs.lemmas.Option.{slice_get_within, slice_get-get_or}
 use Rattle.cat_program.specs.declared.outs.LogEntry.TheVariants.{Ran}
 use Rattle.cat_program.specs.Checked.{Checked}
 use Rattle.nv_memory.specs.declared.layout.Layout.{Layout}
 use Rattle.nv_memory.specs.declared.board.Answer.{Answer}
+use Rattle.nv_memory.specs.declared.entry.Op.{Op}
 use Rattle.nv_memory.specs.declared.board.Answer.TheVariants.{Done, Lost, Over}
 use Rattle.nv_memory.specs.Bytes.{bytes_at, written}
 use Rattle.nv_memory.specs.Board.{State, Runs}
@@ -276,6 +277,25 @@ module _ (writes : WritesAreLocal) (parts : (l : Layout) → PartsAreApart l) (s
         late mid size (Same is) = ap length is ∙ size
         late mid size (Marked left one is) = ap length is ∙ writes.size 1 left mid.image (omega (arith, one, inside mid.image size)) ∙ size
 
+    -- a move that found no room has not come to the format byte
+    pub over : (after : State) → Runs before (move_writes old new before.image) Over after → IsInOld after.image
+    over after run = elim (run_upto (length (move_writes old new before.image)) (writes_of before.image (parts_of old new before.image)) (format_write ∷ []) before after Over whole) [
+      | inl within ↦ in_parts after.image (kept (length (move_writes old new before.image)) after Over within)
+      | inr (mid, m, all, last) ↦ stopped mid m (kept_all mid Done all) last
+    ]
+      where
+        whole : Runs before (take (length (move_writes old new before.image)) (move_writes old new before.image)) Over after
+        whole = subst (λ (ops : List Op). Runs before ops Over after) (sym (take_all (length (move_writes old new before.image)) (move_writes old new before.image) (omega arith))) run
+
+        stopped : (mid : State) (m : ℕ) → ((a m : ℕ) → a + m ≤ size_of old → IsKept a m before.image mid.image) → Runs mid (take m (format_write ∷ [])) Over after → IsInOld after.image
+        stopped mid zero keeps last = absurd last
+        stopped mid (suc m) keeps (inl stops) = subst IsInOld (sym (ap (λ (s : State). s.image) stops.same)) (in_parts mid.image keeps)
+        stopped mid (suc m) keeps (inr (end, done, rest)) = nothing m rest
+          where
+            nothing : (m : ℕ) → Runs end (take m []) Over after → IsInOld after.image
+            nothing zero rest = absurd rest
+            nothing (suc m) rest = absurd rest
+
     pub done : (after : State) → Runs before (move_writes old new before.image) Done after → slice_index after.image 1 ≡ 1
     done after run =
         let (mid, all, last) = run_apart (writes_of before.image (parts_of old new before.image)) (format_write ∷ []) before after run in
@@ -297,5 +317,6 @@ moves writes parts spelled again = record {
   begins = λ old new program image v. begins writes parts spelled again old new program image v;
   stands = λ old new program v before after n answer. stands_for writes parts spelled again old new program v before after n answer;
   done = λ old new before after can. done writes parts spelled again old new before can after;
+  over = λ old new before after can. over writes parts spelled again old new before can after;
   size = λ old new before after n answer can. same_size writes parts spelled again old new before can n answer after;
 }

@@ -3,7 +3,7 @@ use Rattle.std.specs.Prelude.{◌≡◌, ℕ, ◌≤◌, List, length, take, sli
 use Rattle.cat_program.specs.Checked.{Checked}
 use Rattle.nv_memory.specs.declared.layout.Layout.{Layout}
 use Rattle.nv_memory.specs.declared.board.Answer.{Answer}
-use Rattle.nv_memory.specs.declared.board.Answer.TheVariants.{Done}
+use Rattle.nv_memory.specs.declared.board.Answer.TheVariants.{Done, Over}
 use Rattle.nv_memory.specs.Board.{State, Runs}
 use Rattle.nv_memory.specs.Layout.{size_of}
 use Rattle.recovery.specs.Committed.{Committed, IsCommitted}
@@ -30,5 +30,7 @@ pub record MovesAreSafe : Type 0 where
       → Runs before (take n (move_writes old new before.image)) answer after → StandsFor old new program after.image v
   -- a whole move ends in the second format
   pub done : (old new : Layout) (before after : State) → CanMove old new before.image → Runs before (move_writes old new before.image) Done after → slice_index after.image 1 ≡ 1
+  -- one that found no room for a write has not come to the format byte
+  pub over : (old new : Layout) (before after : State) → CanMove old new before.image → Runs before (move_writes old new before.image) Over after → IsInOld after.image
   -- nothing but the part behind the image of the first format, and the format byte, has changed
   pub size : (old new : Layout) (before after : State) (n : ℕ) (answer : Answer) → CanMove old new before.image → Runs before (take n (move_writes old new before.image)) answer after → length after.image ≡ length before.image

@@ -1,4 +1,5 @@
 ghost use Rattle.migration.specs.Laws.{MovesAreSafe};
+ghost use Rattle.migration.specs.Stretch.{StretchesAreSafe};
 
 use nv_log::{entries_are_spelled_once, records_are_read_again};
 use nv_memory::{parts_are_apart, writes_are_local};
@@ -12,4 +13,11 @@ pub fn moves_are_safe()
     parts_are_apart();
     entries_are_spelled_once();
     records_are_read_again();
+}
+
+/// So it is after each entry of what `move_on` does.
+pub fn stretches_are_safe()
+    ensures { StretchesAreSafe }
+{
+    moves_are_safe();
 }

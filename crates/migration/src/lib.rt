@@ -3,6 +3,8 @@
 
 mod laws;
 mod moving;
+mod stretch;
 
-pub use laws::moves_are_safe;
+pub use laws::{moves_are_safe, stretches_are_safe};
 pub use moving::migrate;
+pub use stretch::move_on;
