@@ -15,7 +15,7 @@ use Rattle.migration.specs.Laws.{MovesAreSafe, StandsFor}
 use Rattle.migration.specs.Moves.{CanMove, IsInOld, format_write, move_writes, parts_of, writes_of}
 use Rattle.migration.specs.Stretch.{CanBegin, IsInNew, KeepsValue, Moved, Ended, Further, Moves, StretchesAreSafe, asked_next}
 use Rattle.nv_memory.specs.Laws.{OperationsAreBounded}
-use Rattle.migration.proofs.Told.{TakesTime, Tells, join_by, join_each, later_run, tells}
+use Rattle.migration.proofs.Told.{TakesTime, Tells, join_by, join_each, later_run, not_sooner, tells}
 
 -- the operation writes nothing, also where it is lost
 record IsQuiet (op : Op) : Type 0 where
@@ -135,6 +135,11 @@ module _ (moves : MovesAreSafe) (old new : Layout) where
       ended s t stands (Ended _ _ is_old run) = next_over program v s is_old stands over enough t run
       ended s u stands (Further _ t _ answer _ is_old room run later) = ended t u (next_stands program v s is_old stands enough t answer run) later
 
+  later : (enough : ℕ) (s t : State) (moved : Bool) → Moves old new enough s moved t → s.tick ≤ t.tick
+  later enough s t moved (Moved _ _ is_new same) = (let now : t.tick ≡ s.tick = ap (λ (s : State). s.tick) same in omega (arith, now))
+  later enough s t moved (Ended _ _ is_old run) = not_sooner (asked_next old new enough s) s t Over run
+  later enough s u moved (Further _ t _ answer _ is_old room run rest) = omega (arith, not_sooner (asked_next old new enough s) s t answer run, later enough t u moved rest)
+
   moved_is_new : (enough : ℕ) (s t : State) → Moves old new enough s true t → IsInNew t.image
   moved_is_new enough s t (Moved _ _ is_new same) = subst IsInNew (sym (ap (λ (s : State). s.image) same)) is_new
   moved_is_new enough s u (Further _ t _ answer _ is_old room run later) = moved_is_new enough t u later
@@ -143,6 +148,7 @@ pub stretches : MovesAreSafe → StretchesAreSafe
 stretches moves = record {
   keeps = λ old new enough program v s t moved. keeps moves old new enough program v s t moved;
   size = λ old new enough program v s t moved. size moves old new enough program v s t moved;
+  later = λ old new enough s t moved. later moves old new enough s t moved;
   moved = λ old new enough s t. moved_is_new moves old new enough s t;
   ended = λ old new enough program v s t stands. ended moves old new enough program v (λ before after can run. moves.over old new before after can run) s t stands;
 }

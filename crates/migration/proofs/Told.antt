@@ -1,5 +1,5 @@
 -- The entries that a run of operations leaves, one for each that was done and for the one that was lost.
-use Rattle.std.proofs.Common.{◌≡◌, ◌≢◌, inl, inr, ℕ, zero, suc, ◌+◌, ◌≤◌, ◌<◌, true, false, List, [], ◌∷◌, ◌++◌, length, take, refl, sym, ◌∙◌, ap, subst, arith, append-nil, append_assoc}
+use Rattle.std.proofs.Common.{◌≡◌, ◌≢◌, inl, inr, ℕ, zero, suc, ◌+◌, ◌≤◌, ◌<◌, true, false, List, [], ◌∷◌, ◌++◌, length, take, refl, sym, ◌∙◌, ap, arith, append-nil, append_assoc}
 use Rattle.nv_memory.specs.declared.device.Class.{Class}
 use Rattle.nv_memory.specs.declared.board.Answer.{Answer}
 use Rattle.nv_memory.specs.declared.board.Answer.TheVariants.{Done, Lost, Over}
@@ -75,6 +75,17 @@ tells (op ∷ ops) old new answer (inr (mid, done, run)) =
 
 -- ---- time
 
+-- no run goes back in time
+pub not_sooner : (ops : List Op) (old new : State) (answer : Answer) → Runs old ops answer new → old.tick ≤ new.tick
+not_sooner [] old new Done run = (let same : new.tick ≡ old.tick = ap (λ (s : State). s.tick) run in omega (arith, same))
+not_sooner [] old new Lost run = absurd run
+not_sooner [] old new Over run = absurd run
+not_sooner (op ∷ ops) old new Done (inl stops) = absurd stops
+not_sooner (op ∷ ops) old new Over (inl stops) = (let same : new.tick ≡ old.tick = ap (λ (s : State). s.tick) stops.same in omega (arith, same))
+not_sooner (op ∷ ops) old new Lost (inl stops) = (let now : new.tick ≡ old.tick + length stops.passed = ap (λ (s : State). s.tick) stops.becomes in omega (arith, now))
+not_sooner (op ∷ ops) old new answer (inr (mid, done, run)) =
+    (let now : mid.tick ≡ old.tick + length done.passed = ap (λ (s : State). s.tick) done.becomes in omega (arith, now, not_sooner ops mid new answer run))
+
 -- an operation of each class takes a tick at least
 abbrev pub TakesTime : State → Type 0
 TakesTime s = (kind : Class) → 1 ≤ s.ticks kind
@@ -87,18 +98,6 @@ module _ (bounded : OperationsAreBounded) where
         let some : 1 ≤ ticks_of old.ticks op = bounded.ticks old.ticks op time in
         omega (arith, now, some, done.all_ticks)
 
-    time_done : TakesTime mid
-    time_done = subst (λ (t : Class → ℕ). (kind : Class) → 1 ≤ t kind) (sym (ap (λ (s : State). s.ticks) done.becomes)) time
-
-  not_sooner : (ops : List Op) (old new : State) (answer : Answer) → TakesTime old → Runs old ops answer new → old.tick ≤ new.tick
-  not_sooner [] old new Done time run = (let same : new.tick ≡ old.tick = ap (λ (s : State). s.tick) run in omega (arith, same))
-  not_sooner [] old new Lost time run = absurd run
-  not_sooner [] old new Over time run = absurd run
-  not_sooner (op ∷ ops) old new Done time (inl stops) = absurd stops
-  not_sooner (op ∷ ops) old new Over time (inl stops) = (let same : new.tick ≡ old.tick = ap (λ (s : State). s.tick) stops.same in omega (arith, same))
-  not_sooner (op ∷ ops) old new Lost time (inl stops) = (let now : new.tick ≡ old.tick + length stops.passed = ap (λ (s : State). s.tick) stops.becomes in omega (arith, now))
-  not_sooner (op ∷ ops) old new answer time (inr (mid, done, run)) = omega (arith, later_done op old mid time done, not_sooner ops mid new answer (time_done op old mid time done) run)
-
   -- a run of some operations that found room takes time
   pub later_run : (ops : List Op) (op : Op) (old new : State) (answer : Answer) → TakesTime old → answer ≢ Over → Runs old (ops ++ op ∷ []) answer new → old.tick < new.tick
   later_run [] op old new answer time room run = later_first op [] old new answer time room run
@@ -107,8 +106,8 @@ module _ (bounded : OperationsAreBounded) where
       later_first op ops old new Done time room (inl stops) = absurd stops
       later_first op ops old new Over time room (inl stops) = absurd (room refl)
       later_first op ops old new Lost time room (inl stops) = (let now : new.tick ≡ old.tick + length stops.passed = ap (λ (s : State). s.tick) stops.becomes in omega (arith, now, stops.some_ticks))
-      later_first op ops old new answer time room (inr (mid, done, run)) = omega (arith, later_done op old mid time done, not_sooner ops mid new answer (time_done op old mid time done) run)
+      later_first op ops old new answer time room (inr (mid, done, run)) = omega (arith, later_done op old mid time done, not_sooner ops mid new answer run)
   later_run (first ∷ ops) op old new Done time room (inl stops) = absurd stops
   later_run (first ∷ ops) op old new Over time room (inl stops) = absurd (room refl)
   later_run (first ∷ ops) op old new Lost time room (inl stops) = (let now : new.tick ≡ old.tick + length stops.passed = ap (λ (s : State). s.tick) stops.becomes in omega (arith, now, stops.some_ticks))
-  later_run (first ∷ ops) op old new answer time room (inr (mid, done, run)) = omega (arith, later_done first old mid time done, not_sooner (ops ++ op ∷ []) mid new answer (time_done first old mid time done) run)
+  later_run (first ∷ ops) op old new answer time room (inr (mid, done, run)) = omega (arith, later_done first old mid time done, not_sooner (ops ++ op ∷ []) mid new answer run)

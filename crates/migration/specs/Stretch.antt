@@ -50,5 +50,6 @@ pub record StretchesAreSafe : Type 0 where
       → KeepsValue old new program v s t
   pub size : (old new : Layout) (enough : ℕ) (program : Checked) (v : Committed) (s t : State) (moved : Bool) → StandsFor old new program s.image v → Moves old new enough s moved t
       → length t.image ≡ length s.image
+  pub later : (old new : Layout) (enough : ℕ) (s t : State) (moved : Bool) → Moves old new enough s moved t → s.tick ≤ t.tick
   pub moved : (old new : Layout) (enough : ℕ) (s t : State) → Moves old new enough s true t → IsInNew t.image
   pub ended : (old new : Layout) (enough : ℕ) (program : Checked) (v : Committed) (s t : State) → StandsFor old new program s.image v → Moves old new enough s false t → IsInOld t.image
